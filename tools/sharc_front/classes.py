@@ -20,7 +20,7 @@ def unify(one, other):
 class Node:
     """A class, or a part of one that was united with another: `find` gives the whole."""
     def __init__(self, every, to=None):
-        self.every, self.parent, self.mixed = every, None, False
+        self.every, self.parent = every, None
         self.globals, self.functions = {}, {}  # as sets in order: (symbol, path of members), symbols
         self.types, self.seen = {}, set()  # seen: heap, integer, order, taken, or indexed (another element is used)
         self.parts = {}  # the classes of pointers to other elements ("element",), and to members ("member", ..)
@@ -52,7 +52,7 @@ class Node:
         """The C type of what is pointed to, as far as it is known; rows of arrays count by their elements."""
         kind = kind.base()
         if kind.kind != "void":
-            unify(self.find().types.setdefault(kind.key(), kind), kind)
+            unify(self.find().types.setdefault(kind, kind), kind)
 
     def unite(self, other):
         one, other = self.find(), other.find()
@@ -62,7 +62,7 @@ class Node:
         one.globals.update(other.globals)
         one.functions.update(other.functions)
         one.seen |= other.seen
-        for kind in list(other.types.values()):
+        for kind in list(other.types):
             one.point_to(kind)
         for key, node in list(other.parts.items()):
             one.find().parts.setdefault(key, node).unite(node)
@@ -70,26 +70,22 @@ class Node:
     def representation(self, place):
         """heap, boxes (an array of pointers to its elements), global, function, integer or none; or a refusal."""
         root = self.find()
-        if len(root.globals) > 1:
-            raise Refusal((place, f"pointer to different globals ({', '.join(sorted(map(named, root.globals)))})"))
-        words = {"heap": root.has("heap") and "to an object of the heap or a local",
-                 "global": root.globals and "to global " + "".join(map(named, root.globals)),
-                 "function": root.functions and "to a function", "integer": root.has("integer") and "that is a number"}
+        words = {"heap": root.has("heap") and "an object of the heap or a local",
+                 "global": ", ".join(sorted(map(named, root.globals))),
+                 "function": root.functions and "a function", "integer": root.has("integer") and "a number"}
         kinds = [kind for kind in words if words[kind]]
-        if len(kinds) > 1:
-            raise Refusal((place, "pointer " + " and ".join(words[kind] for kind in kinds)))
-        if kinds != ["heap"] and (kinds or not set(kind[0] for kind in root.types) - {"func"}):
+        if len(kinds) > 1 or len(root.globals) > 1:
+            raise Refusal((place, f"pointer to different things: {', '.join(words[kind] for kind in kinds)}"))
+        if kinds != ["heap"] and (kinds or not {kind.kind for kind in root.types} - {"func"}):
             return kinds[0] if kinds else "none"
         if root.element() is root:
             raise Refusal((place, "pointer arithmetic on an object of the heap or a local"))
         return "boxes" if root.element() else "heap"
 
     def pointee_type(self, place):
-        types = list(self.find().types.values())
+        types = list(self.find().types)
         if len(types) != 1:
-            names = ", ".join(sorted(kind.shown() for kind in types))
-            raise Refusal((place, f"pointer to several types ({names})" if types else
-                           "void * whose type is not known"))
+            raise Refusal((place, f"void * to what is no one type ({', '.join(kind.shown() for kind in types)})"))
         return types[0]
 
 def named(key):
@@ -120,12 +116,12 @@ class Classes:
         in_heap = root.has("heap") and not root.globals
         for (struct, name), node in [(key[1:], node) for key, node in root.parts.items() if key[0] == "member"]:
             node.find().globals.update({(symbol, path + (name,)): None for symbol, path in root.globals
-                                        if self.part(symbol.type, path).base().name == struct})
+                                        if self.part(symbol, path).type.base().name == struct})
             if in_heap:
                 node.mark("heap")
                 self.structs[struct].fields[name].made.unite(node)
                 self.structs[struct].fields[name].alone |= node.has("taken")
-        for _, _, field in [each for kind in root.types.values() if in_heap for each in self.leaves(kind)]:
+        for _, _, field in [each for kind in root.types if in_heap for each in self.leaves(kind)]:
             if field.type.kind == "array":
                 field.made.mark("heap")
 
@@ -137,9 +133,3 @@ class Classes:
                 yield from self.leaves(field.type, path + (name,), apart)
             elif field.type.kind != "bad":
                 yield path + (name,), kind.name, field
-
-    def part(self, kind, path):
-        """The type of a part: members and indices."""
-        for step in path:
-            kind = kind.to if isinstance(step, int) else self.structs[kind.base().name].fields[step].type
-        return kind

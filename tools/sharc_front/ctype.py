@@ -1,35 +1,39 @@
 """The types of C, their sizes and ranges on a 64-bit machine, and the conversions of C11 6.3.1."""
 
-from dataclasses import dataclass, replace
+import ctypes
+from dataclasses import dataclass, field, replace
 
 BITS = {"bool": 1, "char": 8, "uchar": 8, "short": 16, "ushort": 16, "int": 32, "uint": 32, "long": 64, "ulong": 64}
 UNSIGNED = {"bool", "uchar", "ushort", "uint", "ulong"}
 # the type of the cell that holds each: SharC has only signed types; an unsigned long is held by its 64 bits
 CELL = {**dict.fromkeys(BITS, "int"), "char": "char", "uint": "long", "long": "long", "ulong": "long"}
-SIZES = {"mutex": 40, "cond": 8, "struct sem_t": 32, "struct pthread_cond_t": 48, "struct pthread_barrier_t": 32,
-         "struct pthread_rwlock_t": 56, "ptr": 8, "void": 1}  # in glibc
+# the types as ctypes has them, those of pthreads by their sizes in glibc
+LAYOUTS = {**{name: getattr(ctypes, f"c_int{max(8, bits)}") for name, bits in {**BITS, "void": 8, "func": 8}.items()},
+           **{name: ctypes.c_int64 * size for name, size in {
+               "ptr": 1, "bad": 1, "cond": 1, "mutex": 5, "struct sem_t": 4, "struct pthread_cond_t": 6,
+               "struct pthread_barrier_t": 4, "struct pthread_rwlock_t": 7}.items()}}
 
 class Refusal(Exception):
     """Its arguments are places, as (file, line), each with what is refused there, or None where it was said already."""
 
+# what may come of C that the front does not know
+UNKNOWN = (Refusal, AttributeError, LookupError, TypeError, ValueError)
+
 @dataclass(frozen=True)
 class Type:
+    """A type; those that are compatible are equal, with other marks and classes too."""
     kind: str  # int, void, ptr, array, struct, func, mutex, cond, or bad where the type was refused
     # of an int: a key of BITS; of a struct: its name; of a function with variable arguments: ...; of a pointer to the
     # copy of a struct that is passed or returned: value
     name: str = ""
     to: "Type" = None  # what a pointer points to, the element of an array, the result of a function
     length: int = None  # of an array; None where it is not known
-    params: tuple = None  # of a function; None for `()`
-    mode: tuple = None  # the mark as it is written in SharC, and the scopes there
-    atomic: bool = False
-    const: bool = False
-    node: object = None  # of a pointer: the class of all pointers that may point to the same
+    params: tuple = field(default=None, compare=False)  # of a function; None for `()`
+    mode: tuple = field(default=None, compare=False)  # the mark as it is written in SharC, and the scopes there
+    atomic: bool = field(default=False, compare=False)
+    const: bool = field(default=False, compare=False)
+    node: object = field(default=None, compare=False)  # of a pointer: the class of all that may point to the same
     with_ = replace
-
-    def key(self):
-        """What is equal for compatible types: the type without marks and classes."""
-        return (self.kind, self.name, self.length, self.to and self.to.key())
 
     def bare(self):
         return self.with_(mode=None, atomic=False, to=self.to and self.to.bare())

@@ -1,10 +1,12 @@
 """Declarations: types, structs, enums, names and their scopes, initialisers and strings (C11 6.2.1, 6.4.5, 6.7)."""
 
+import ctypes
 import re
 
 from pycparser import c_ast as A
 from .classes import Classes, Node, unify
-from .ctype import BAD, BITS, BOOL, COND, INT, MUTEX, SIZES, UINT, VOID, Refusal, Type, array
+from .ctype import BAD, BOOL, COND, INT, LAYOUTS, MUTEX, UINT, VOID, Refusal, Type, array
+from .names import in_c
 from .tree import number
 
 # the types that a few words name, without `signed` and `int`, in the order of the alphabet
@@ -12,7 +14,6 @@ WORDS = {"": INT, "void": VOID, "pthread_mutex_t": MUTEX, "pthread_spinlock_t": 
          "_Bool": BOOL, "long long": Type("int", "long"), "long long unsigned": Type("int", "ulong"),
          "unsigned": UINT, **{word: Type("int", word) for word in ("char", "short", "long")},
          **{word + " unsigned": Type("int", "u" + word) for word in ("char", "short", "long")}}
-ESCAPES = dict(zip(b"abfnrtv\\'\"?e", b"\a\b\f\n\r\t\v\\'\"?\x1b"))
 
 class Symbol:
     """A variable, parameter or function."""
@@ -31,11 +32,11 @@ class Field:
     def __init__(self, type, place, made):
         self.type, self.place = type, place
         self.made = made  # the class of pointers to it, or to its elements if it is an array, in objects of the heap
-        self.alone = False  # its address is taken there, so it is an object of its own, as arrays are
+        self.alone = type.kind == "array"  # whether it is an object of its own there; also where its address is taken
 
 class Struct:
     def __init__(self, place):
-        self.place, self.fields, self.complete = place, {}, False
+        self.place, self.fields = place, {}
 
 def place_of(node, otherwise=("", 0)):
     coord = getattr(node, "coord", None)
@@ -49,8 +50,10 @@ class Declarations(Classes):
         if condition:
             self.refuse(node or self.here, what)
 
-    def report(self, refusal):
-        self.refusals += [about for about in refusal.args if about[1] and about not in self.refusals]
+    def report(self, error, what=None):
+        """Notes a refusal, or another error as one with this text."""
+        told = error.args if isinstance(error, Refusal) else [(self.here, what)]
+        self.refusals += [about for about in told if about[1] and about not in self.refusals]
 
     def fresh(self, name):
         """A name that nothing has, of at most 60 bytes."""
@@ -77,8 +80,8 @@ class Declarations(Classes):
         return read(node) if read else self.refuse(node, f"type ({type(node).__name__})")
 
     def t_Union(self, node):
-        known = node.decls is None and node.name in self.unions
-        self.unions.add(node.name)
+        known = node.decls is None and self.scopes.get(f" {node.name}") == BAD
+        self.scopes[f" {node.name}"] = BAD
         self.refuse(node, None if known else "union")
 
     def t_IdentifierType(self, node):
@@ -93,14 +96,13 @@ class Declarations(Classes):
 
     def t_ArrayDecl(self, node):
         kind = self.type(node.type)
-        length = self.constant(node.dim, "array whose length is not constant") if node.dim is not None else None
-        if kind.kind in ("void", "func") or kind.kind == "array" and kind.length is None or (length or 1) < 1:
-            self.refuse(node, "array of no elements" if length is not None else "array of this type")
+        length = self.constant(node.dim) if node.dim is not None else None
+        self.refuse_if(length is not None and length < 1, "array of no elements", node)
         return array(kind, length)
 
-    def constant(self, node, what):
+    def constant(self, node):
         value = self.captured(self.value, node)[1].number
-        return value if value is not None else self.refuse(node, what)
+        return value if value is not None else self.refuse(node, f"`{in_c(node)}`, which is not constant")
 
     def t_FuncDecl(self, node):
         params, result = node.args.params if node.args else None, self.adjusted(self.type(node.type))
@@ -123,7 +125,7 @@ class Declarations(Classes):
         value, least = 0, 0
         for item in node.values.enumerators:
             if item.value is not None:
-                value = self.constant(item.value, "enumerator that is not constant")
+                value = self.constant(item.value)
             self.refuse_if(not -(1 << 31) <= value < 1 << 31, "enumerator that is no int", item)
             self.scopes[item.name] = number(value)
             value, least = value + 1, min(value, least)
@@ -140,63 +142,42 @@ class Declarations(Classes):
             self.scopes.update({tag: self.tags[id(node)]} if node.name and not known else {})
         name = self.tags[id(node)]
         struct = self.structs.setdefault(name, Struct(place_of(node, self.here)))
-        if node.decls is not None and not struct.complete:
-            struct.complete = True
-            for decl in node.decls:
-                self.member_of(name, decl)
+        for decl in node.decls or () if not struct.fields else ():
+            self.member_of(name, decl)
         return Type("struct", name)
 
     def member_of(self, struct, decl):
         """Reads the declaration of a member; its type is bad where it is refused."""
         name, kind = getattr(decl, "name", None), BAD
         try:
-            what = "#pragma" if isinstance(decl, A.Pragma) else "bit field" if name else "member without a name"
-            self.refuse_if(not isinstance(decl, A.Decl) or name is None or decl.bitsize is not None, what, decl)
+            self.refuse_if(not name or decl.bitsize, "bit field" if name else "member without a name", decl)
             read = self.type(decl.type)
             self.refuse_if(read.kind == "array" and read.length is None, "array without a length in a struct", decl)
-            self.complete(read, decl)
             kind = read
         except Refusal as refusal:
             self.report(refusal)
         self.structs[struct].fields[name or ""] = Field(kind, place_of(decl, self.here), Node(self.nodes, kind))
 
-    def complete(self, kind, node):
-        base, what = kind.base(), {"bad": None, "struct": f"struct {kind.base().name}, which is not defined"}
-        incomplete = base.kind == "struct" and not self.structs[base.name].complete
-        self.refuse_if(incomplete or base.kind in ("bad", "void", "func", "cond"),
-                       what.get(base.kind, "variable of this type"), node)
+    def layout(self, kind):
+        """The type as ctypes has it, which lays structs out as gcc does."""
+        known = LAYOUTS.get(kind.shown() if kind.kind in ("int", "struct") else kind.kind)
+        if known or kind.kind == "array":
+            return known or self.layout(kind.to) * (kind.length or 0)
+        fields = [(name, self.layout(member.type)) for name, member in self.structs[kind.name].fields.items()]
+        return type("Layout", (ctypes.Structure,), {"_fields_": fields})
 
     def size(self, kind):
-        """Size and alignment in bytes, as gcc has them on a 64-bit machine; no size where it is not known."""
-        if kind.kind == "int":
-            return (max(1, BITS[kind.name] // 8),) * 2
-        if kind.kind == "array":
-            size, align = self.size(kind.to)
-            return size and kind.length and kind.length * size, align
-        known = SIZES.get(kind.shown() if kind.kind == "struct" else kind.kind)
-        if known or kind.kind != "struct":
-            return known, 8
-        at, align = 0, 1
-        for member in self.structs[kind.name].fields.values():
-            size, step = self.size(member.type)
-            if size is None:
-                return None, 8
-            at, align = -(-at // step) * step + size, max(align, step)
-        return -(-at // align) * align, align
-
-    def has_mutex(self, kind):
-        base = kind.base()
-        return base.kind == "mutex" or any(self.has_mutex(field.type) for *_, field in self.leaves(base))
+        """The size in bytes; 0 where it is not known."""
+        return ctypes.sizeof(self.layout(kind))
 
     def declare(self, name, kind, type, node):
-        self.complete(type, node)
         symbol = Symbol(name, kind, type, place_of(node, self.here), Node(self.nodes, type))
         symbol.shared = kind == "global" or type.atomic or name in self.addressed
         if kind == "global":
             symbol.address.globals[(symbol, ())] = None
         else:
             symbol.address.mark("heap")
-            symbol.boxed = self.has_mutex(type)
+            symbol.boxed = MUTEX in [type, *(field.type for *_, field in self.leaves(type))]
         return symbol
 
     def variable(self, decl, kind):
@@ -215,26 +196,16 @@ class Declarations(Classes):
             symbol.out = self.fresh(f"{self.function.name}_{decl.name}") if len(self.scopes.maps) > 1 else symbol.out
         return symbol
 
-    def text_of(self, item, kind):
-        """The item, with a list of its bytes for a string that initialises an array of characters."""
-        inner = item
-        while isinstance(inner, A.InitList) and len(inner.exprs) == 1:
-            inner = inner.exprs[0]
-        literal = isinstance(inner, A.Constant) and inner.type == "string" and kind.kind == "array"
-        if not literal or kind.to.name not in ("char", "uchar"):
-            return item
-        data = [*self.bytes_of(inner), 0]
-        return A.InitList([A.Constant("int", str(byte), inner.coord) for byte in data[: kind.length]])
-
     def scalars(self, kind, items, path=()):
-        """Takes from `items` what initialises one object, a list in braces, a value, or those of its parts (C11 6.7.9):
-        the scalars, each with its path of members and indices."""
-        item, whole = self.text_of(items[0], kind), kind.kind not in ("array", "struct")
+        """Takes from `items` what initialises one object: values, each with its path of members and indices (6.7.9)."""
+        item, whole = items[0], kind.kind not in ("array", "struct")
         if isinstance(item, A.ID) and item.name == "__sharc_init":
             items.pop(0)
+        elif getattr(item, "type", None) == "string" and kind.kind == "array" and kind.to.name in ("char", "uchar"):
+            for at, byte in enumerate([*self.bytes_of(items.pop(0)), 0][: kind.length]):
+                yield path + (at,), A.Constant("int", str(byte), item.coord)
         elif isinstance(item, A.InitList):
-            items.pop(0)
-            inner = list(item.exprs)
+            inner = list(items.pop(0).exprs)
             yield from self.scalars(kind, inner, path) if whole else self.parts(kind, inner, path, True)
         elif whole or kind.kind == "struct" and self.captured(self.value, item)[1].type.kind == "struct":
             yield path, items.pop(0)
@@ -249,19 +220,14 @@ class Declarations(Classes):
             item, more = items[0], []
             if isinstance(item, A.NamedInitializer):
                 name, *more = item.name
-                at = steps.index(name.name if kind.kind == "struct" else
-                                 self.constant(name, "designator that is not constant"))
+                at = steps.index(name.name if kind.kind == "struct" else self.constant(name))
                 items[0] = A.NamedInitializer(more, item.expr) if more else item.expr
-            self.refuse_if(at >= len(steps), "initialiser with too many values", item)
-            part, inside = self.part(kind, steps[at : at + 1]), path + (steps[at],)
+            part = kind.to if kind.kind == "array" else self.structs[kind.name].fields[steps[at]].type
+            inside = path + (steps[at],)
             yield from self.parts(part, [items.pop(0)], inside, True) if more else self.scalars(part, items, inside)
             at += 1
 
     def bytes_of(self, node):
-        """The bytes of a string or character constant."""
-        def byte(found):
-            octal, letter = found.groups()
-            self.refuse_if(letter and ord(letter) not in ESCAPES, f"escape {found[0].decode('latin-1')}", node)
-            return bytes([int(octal, 8) if octal else ESCAPES[ord(letter)]])
+        """The bytes of a string or character constant, in which every escape has three digits."""
         self.refuse_if(node.type == "string" and node.value[0] != '"', "wide string", node)
-        return re.sub(rb"\\(?:([0-7]{3})|(.))", byte, node.value[1:-1].encode(), flags=re.DOTALL)
+        return re.sub(rb"\\(...)", lambda found: bytes([int(found[1], 8)]), node.value[1:-1].encode())

@@ -8,13 +8,12 @@ from dataclasses import dataclass
 
 from pycparser import c_ast as A
 from .classes import Node
-from .ctype import BITS, BOOL, CHAR, INT, LONG, ULONG, VOID, Type, array, promoted, usual
+from .ctype import BAD, BITS, BOOL, CHAR, INT, LONG, ULONG, VOID, Type, array, promoted, usual
 from .declare import Declarations, Symbol, place_of
-from .tree import COMPARED, NOTHING, PLACES, TRUTHS, Expr, address, binary, compare, convert, element, joined, number, \
-    plus, variable
+from .tree import COMPARED, NOTHING, PLACES, TRUTHS, Expr, address, binary, convert, element, joined, number, plus, \
+    variable
 
-SPOKEN = {"Compound": "statement expression", "Goto": "goto", "Label": "label", "Pragma": "#pragma",
-          "Case": "case inside another statement", "Default": "case inside another statement"}
+SPOKEN = {"Compound": "statement expression", "Case": "case inside another statement"}
 
 @dataclass
 class Line:
@@ -22,7 +21,6 @@ class Line:
     text: str  # with %s for each part
     parts: tuple = ()  # trees, types and texts
     declares: bool = False
-    header: bool = False  # whether it comes from the body of a function of the headers
     blocks: tuple = ()  # the lines of a block, and of what may be executed in its place
 
 def uncast(node):
@@ -32,7 +30,7 @@ def uncast(node):
 
 class Expressions(Declarations):
     def emit(self, text, *parts, **more):
-        self.lines.append(Line(self.here, text, parts, header=bool(self.pinned), **more))
+        self.lines.append(Line(self.here, text, parts, **more))
 
     def later(self, act, *about, **more):
         """A line that is known when all of the program was read; `about`: the places in it."""
@@ -51,7 +49,7 @@ class Expressions(Declarations):
     def own_name(self, name):
         made = self.fresh(name)
         self.user.own.add(made)
-        self.locals += 1
+        self.own_names.add(made)
         return made
 
     def temporary(self, type, value=None):
@@ -72,8 +70,6 @@ class Expressions(Declarations):
 
     def stable(self, value):
         """The value, so that it may be written several times and evaluated later."""
-        if value.op == "cast":
-            return value.with_(args=(self.stable(value.args[0]),))
         if value.op == "address":
             return value.with_(args=(self.stable_place(value.args[0], value.args[0].op == "at"),))
         if value.type.kind == "struct":
@@ -90,9 +86,9 @@ class Expressions(Declarations):
         return place.with_(args=(base, *(self.stable(arg) if isinstance(arg, Expr) else arg for arg in inner)))
 
     def member(self, base, name):
-        fields = self.structs[base.type.name].fields
-        field = fields.get(name)
-        self.refuse_if(field is None or field.type.kind == "bad", None if field or "" in fields else f"member {name}")
+        fields = self.structs[base.type.base().name].fields
+        field = fields.get(name) or fields[""]  # where one without a name is refused
+        self.refuse_if(field.type.kind == "bad", None)
         return Expr("member", (base, name), field.type)
 
     def inner_place(self, base, path):
@@ -100,13 +96,16 @@ class Expressions(Declarations):
             base = element(base, number(step)) if isinstance(step, int) else self.member(base, step)
         return base
 
+    def part(self, symbol, path):
+        return self.inner_place(variable(symbol), path)
+
     @staticmethod
     def at(value, index):
         """Element `index` of what a pointer points to, as a place."""
         place, kind = value.place(), value.type.to
-        if place and place.type.kind == "array" and kind.key() == place.type.to.key():
+        if place and place.type.kind == "array" and kind == place.type.to:
             return element(place, index)
-        if place and kind.key() == place.type.key() and (index.null() or place.op in ("element", "at")):
+        if place and kind == place.type and (index.null() or place.op in ("element", "at")):
             return place if index.null() else place.with_(args=(place.args[0], plus(place.args[1], index)))
         return Expr("at", (value, index), kind)
 
@@ -126,7 +125,6 @@ class Expressions(Declarations):
             return place
         if kind.kind == "array":
             return address(place, kind.to)
-        self.refuse_if(kind.kind not in ("int", "ptr"), f"{kind.shown()} as a value")
         return self.spilled(place) if kind.atomic else place
 
     def address_class(self, place, taken=False):
@@ -166,11 +164,10 @@ class Expressions(Declarations):
         here, name = self.here, type(node).__name__
         self.here = here if self.pinned else place_of(node, here)
         lower = getattr(self, "x_" + name, None)
-        made = lower(node, wanted) if lower else self.refuse(node, SPOKEN.get(name, name))
+        made = lower(node, wanted) if lower else self.refuse(node, SPOKEN.get(name, name.lower()))
         self.here = here
-        if not made or made.op not in PLACES or made.source or self.pinned or getattr(made.args[0], "own", False):
-            return made
-        return made.with_(source=node)
+        unnamed = made and made.op in PLACES and not (made.source or self.pinned or getattr(made.args[0], "own", False))
+        return made.with_(source=node) if unnamed else made
 
     def value(self, node, wanted=True):
         """What an expression gives, if that is wanted, else nothing but its effects."""
@@ -196,16 +193,14 @@ class Expressions(Declarations):
 
     def fitting(self, value, kind):
         """A value as an object of this type holds it."""
-        given = value.type
-        if kind.kind == "int":
-            self.refuse_if(given.kind != "int" and (given.kind, kind.name) != ("ptr", "bool"),
-                           f"{given.shown()} as a number")
-            truth = kind.name == "bool"  # 0 or 1
-            value = self.compared("!=", value, number(0)) if truth and given.kind == "ptr" else value
-            return value.typed(BOOL) if truth and value.op in TRUTHS else convert(value, kind.name)
         if kind.name == "value":
-            return self.copied(kind, value)
-        self.refuse_if(given.kind != "ptr" and not value.null(), "number as a pointer")
+            value = self.copied(value)
+        truth = kind.name == "bool"  # 0 or 1
+        if truth and value.type.kind == "ptr":
+            value = self.operated("!=", value, number(0))
+        self.refuse_if(value.type.kind != kind.kind and not value.null(), f"{value.type.shown()} as {kind.shown()}")
+        if kind.kind == "int":
+            return value.typed(BOOL) if truth and value.op in TRUTHS else convert(value, kind.name)
         if value.null():
             return Expr("text", (lambda: self.null_text(kind.node),), kind, 0)
         kind.node.unite(self.class_of(value))
@@ -215,16 +210,15 @@ class Expressions(Declarations):
         if node.type == "string":
             return self.string(self.bytes_of(node))
         if node.type == "char":
-            data = self.bytes_of(node)
-            self.refuse_if(len(data) != 1, "character of this form", node)
-            return convert(number(data[0], "char"), "int")
+            [byte] = self.bytes_of(node)
+            return convert(number(byte, "char"), "int")
         self.refuse_if("float" in node.type or "double" in node.type, "floating point", node)
         digits, suffix = re.fullmatch(r"(.*?)([ul]*)", node.value.lower()).groups()
         value, names = int(digits, 8 if re.fullmatch("0[0-7]+", digits) else 0), ("int", "uint", "long", "ulong")
         names = names["u" in suffix :: 2] if digits[0] != "0" or "u" in suffix else names
         fitting = [name for name in names if not value >> BITS[name] - (name[0] != "u")
                    and ("l" not in suffix or BITS[name] == 64)]  # the first type that holds it (C11 6.4.4.1)
-        return number(value, fitting[0]) if fitting else self.refuse(node, "constant over 64 bits")
+        return number(value, fitting[0])
 
     def string(self, data):
         """A literal: the number of its first character in an array of all that are written."""
@@ -236,25 +230,22 @@ class Expressions(Declarations):
         found = self.scopes.get(node.name)
         if isinstance(found, Expr):
             return found
-        self.refuse_if(not isinstance(found, Symbol), f"name {node.name.replace('__sharc_', '')}, which is not known"
-                       if found is None else None)
+        self.refuse_if(found is None, f"name {node.name.replace('__sharc_', '')}, which is not known")
+        self.refuse_if(found == BAD, None)
         found.uses += 1
         if found.kind != "function":
             return variable(found)
         self.refuse_if(found.header, f"address of {found.name}")
         kind = self.pointer(found.type)
         kind.node.functions[found] = None
-        shown = str(self.numbers.setdefault(found, len(self.numbers) + 1))
-        return Expr("text", (lambda: shown,), kind)
+        return Expr("number", (), kind, self.numbers.setdefault(found, len(self.numbers) + 1))
 
     def x_StructRef(self, node, _):
         base = self.deref(self.value(node.name)) if node.type == "->" else self.visit(node.name)
         return self.member(base, node.field.name)
 
     def x_ArrayRef(self, node, _):
-        base, index = self.values([node.name, node.subscript])
-        base, index = (index, base) if base.type.kind == "int" else (base, index)
-        return self.deref(base, index)
+        return self.deref(self.operated("+", *self.values([node.name, node.subscript])))
 
     def x_CompoundLiteral(self, node, _):
         self.refuse_if(self.function is None, "compound literal outside a function", node)
@@ -268,13 +259,12 @@ class Expressions(Declarations):
             literal = isinstance(inner, A.Constant) and inner.type == "string"
             kind = array(CHAR, len(self.bytes_of(inner)) + 1) if literal else self.type(inner) \
                 if isinstance(inner, A.Typename) else self.captured(self.visit, inner)[1].type
-            return number(self.size(kind)[0] or self.refuse(node, "sizeof of this type"), "ulong")
+            return number(self.size(kind) or self.refuse(node, "sizeof of this type"), "ulong")
         if op == "&" and isinstance(inner, A.UnaryOp) and inner.op == "*":
             return self.value(inner.expr)
         if op == "&":
             made = self.visit(inner)
-            self.refuse_if(made.op not in (*PLACES, "text"), "address of this form", inner)
-            return made if made.op == "text" else address(made)  # text: a function
+            return made if made.op == "number" else address(made)  # the number of a function
         if op in ("++", "--", "p++", "p--"):
             place = self.stable_place(self.visit(inner))
             return self.changed(place, wanted, A.Constant("int", "1"), op[-1], after=op[0] == "p")
@@ -282,7 +272,7 @@ class Expressions(Declarations):
         if op == "*":
             return value if value.type.kind == "ptr" and value.type.to.kind == "func" else self.deref(value)
         if op == "!":
-            return self.compared("==", value, number(0))
+            return self.operated("==", value, number(0))
         name = promoted(value.type)
         if op == "+":
             return convert(value, name)
@@ -305,11 +295,11 @@ class Expressions(Declarations):
 
     def operated(self, op, left, right):
         kinds = (left.type.kind, right.type.kind)
-        if op in COMPARED:
-            return self.compared(op, left, right)
         if "ptr" not in kinds:
             name = promoted(left.type) if op in ("<<", ">>") else usual(left.type, right.type)
             return binary(op, left, right, name)
+        if op in COMPARED:
+            return self.compared(op, left, right)
         if kinds == ("ptr", "ptr") and op == "-":
             self.class_of(left).unite(self.class_of(right))
             cells, made = left.type.to.cells(), joined("-", "long", self.ordered(left), self.ordered(right))
@@ -324,13 +314,9 @@ class Expressions(Declarations):
         return Expr("ordered", (value,), Type("int", "long"), wide=True)
 
     def compared(self, op, left, right):
-        if "ptr" not in (left.type.kind, right.type.kind):
-            return compare(op, left, right, usual(left.type, right.type))
-        pointers = [side for side in (left, right) if not side.null()]
-        if not pointers:
-            return number(int(op == "=="))
-        self.refuse_if(pointers[0].type.kind != "ptr", "comparison of a pointer with a number")
-        kind = Type("ptr", to=pointers[0].type.to, node=self.class_of(pointers[0]))
+        """The same for pointers, of which one may be NULL."""
+        pointer = right if left.null() else left
+        kind = Type("ptr", to=pointer.type.to, node=self.class_of(pointer))
         sides = [self.fitting(side, kind) for side in (left, right)]
         return joined(op, "int", *(sides if op in ("==", "!=") else map(self.ordered, sides)))
 
@@ -345,9 +331,7 @@ class Expressions(Declarations):
             kind = Type("int", usual(left.type, right.type))
         else:
             other = left.null() or left.type.kind == "ptr" and left.type.to.kind == "void"
-            pick = right.type if other else left.type
-            self.refuse_if(pick.kind != "ptr", f"?: of {pick.shown()}")
-            kind = self.pointer(pick.to)
+            kind = self.pointer((right if other else left).type.to)
         left, right = self.fitting(left, kind), self.fitting(right, kind)
         if None not in (test.number, left.number, right.number) and kind.kind == "int" and target is None:
             return right if test.null() else left
@@ -381,8 +365,7 @@ class Expressions(Declarations):
         return place if wanted else None
 
     def changed(self, place, wanted, by, op, after=False):
-        """a = b, a op= b, a++: the value is the old one if `after`. Atomic variables are changed under one mutex, of
-        headers/sharc_front.h."""
+        """a = b, a op= b, a++: the value is the old one if `after`. Atomic variables are changed under one mutex."""
         by, mutex = self.value(by), self.scopes.maps[-1]["__sharc_atomics"]
         if place.type.atomic:
             by, mutex.uses = self.stable(by), mutex.uses + 1
@@ -412,11 +395,9 @@ class Expressions(Declarations):
             kind, first = found.type, (found,)
         else:
             pointer = self.value(name)
-            kind = pointer.type.to if pointer.type.kind == "ptr" else VOID
-            self.refuse_if(kind.kind != "func" or kind.params is None, "call of this form", node)
-            first = (pointer.type.node, pointer)
-        self.refuse_if(len(kind.params or ()) != len(values), "call with another number of arguments")
-        self.refuse_if(len(values) + len(first) > 17, "call with over 16 arguments")
+            kind, first = pointer.type.to, (pointer.type.node, pointer)
+        self.refuse_if(len(kind.params or ()) != len(values) or len(values) + len(first) > 17,
+                       "call with another number of arguments, or with over 16")
         values = [self.fitting(*each) for each in zip(values, kind.params or ())]
         copies = [value for value in values if value.type.name == "value"]
         made = Expr("call", (*first, *values), kind.to, height=1 + max([2, *(value.height for value in values)]))
@@ -428,18 +409,15 @@ class Expressions(Declarations):
             self.emit("free(%s);", value)
         return made
 
-    def copied(self, kind, value):
+    def copied(self, value):
         """A pointer to a new object with the value of a struct, or to that which a call gave."""
         if value.given:
-            made = value.args[0]
-        else:
-            symbol = self.declare("copy", "local", kind.to.bare(), self.here)
-            symbol.own = True
-            self.declare_local(symbol)
-            made = address(variable(symbol), kind.to)
-            self.copy(variable(symbol), self.stable(value))
-        kind.node.unite(self.class_of(made))
-        return made.typed(kind)
+            return value.args[0]
+        symbol = self.declare("copy", "local", value.type.bare(), self.here)
+        symbol.own = True
+        self.declare_local(symbol)
+        self.copy(variable(symbol), self.stable(value))
+        return address(variable(symbol))
 
     def store(self, place, node):
         """place = node, of whatever type."""
@@ -457,18 +435,18 @@ class Expressions(Declarations):
         if value.given:
             self.emit("free(%s);", value.args[0])
 
-    def copy(self, target, source=None):
-        """The parts of a struct or array, or one cell; without a source they become 0."""
-        kind = target.type
+    def copy(self, target, source):
+        """To the parts of a struct or array, or to one cell, from those of another, or a number."""
+        kind, whole = target.type, source.type.kind != "int"
         if kind.kind == "struct":
             for path, _, _ in self.leaves(kind):
-                self.copy(self.inner_place(target, path), source and self.inner_place(source, path))
+                self.copy(self.inner_place(target, path), self.inner_place(source, path) if whole else source)
         elif kind.kind == "array":
             self.counting(number(kind.length), lambda at: self.copy(element(target, at),
-                                                                    source and element(source, at)))
+                                                                    element(source, at) if whole else source))
         elif kind.kind in ("int", "ptr"):
-            self.put(target, self.loaded(source) if source else number(0))
-        elif source:
+            self.put(target, self.loaded(source))
+        elif whole:
             self.refuse(self.here, "copy of a struct with a mutex or condition variable")
 
     def counting(self, length, act):
@@ -476,7 +454,7 @@ class Expressions(Declarations):
         if length.number == 1:
             return act(number(0))
         at = self.temporary(ULONG if length.type.name == "ulong" else INT)
-        test = compare("<", at, length, usual(at.type, length.type))
+        test = binary("<", at, length, usual(at.type, length.type))
         self.emit("for (%s = 0; %s; %s = %s + 1)", at, test, at, at, blocks=(self.captured(act, at)[0], ()))
 
     @staticmethod

@@ -10,13 +10,12 @@ from .express import Line
 from .statements import Statements
 from .tree import NOTHING, PLACES, Expr, binary, convert, joined, number, times
 
-# of a format: a text, or a conversion by its flags, width, precision, length and letter
-PIECE = re.compile(r"((?:[^%]|%%)+)|%([-+ 0#]*)(\d*|\*)(?:\.(\d*|\*))?(hh|h|ll|l|z|j|t|q)?([a-zA-Z])")
+PIECE = re.compile(r"((?:[^%]|%%)+)|%([-+ 0#]*)(\d*)(?:\.(\d*))?(hh|h|ll|l|z|j|t|q)?([a-zA-Z])")
 
 class Library(Statements):
     def library(self, node, name, args):
         """A call of a function that is neither in the program nor in the headers."""
-        handler = getattr(self, "l_" + name.removeprefix("__builtin_").strip("_").replace("Exit", "exit"), None)
+        handler = getattr(self, "l_" + name.strip("_"), None)
         self.refuse_if(handler is None, f"call of {name.replace('__sharc_', '')}, which is not known", node)
         return handler(args) or number(0)
 
@@ -24,18 +23,13 @@ class Library(Statements):
         """A call of the language: its name, and pointers; for a lock the mutex itself."""
         name, values = args[0].name, self.values(args[1:])
         if name in ("lock", "unlock"):
-            place = self.deref(values[0])
-            self.refuse_if(place.type.kind != "mutex", "lock of what is no mutex")
-            self.emit(name + "(&%s);", place)
-        else:
-            self.emit(f"{name}({', '.join(['%s'] * len(values))});", *values)
+            return self.emit(name + "(&%s);", self.deref(values[0]))
+        return self.emit(f"{name}({', '.join(['%s'] * len(values))});", *values)
 
-    def format(self, arg, rest):
-        self.refuse_if(not (isinstance(arg, A.Constant) and arg.type == "string"), "format that is no literal", arg)
-        pieces = PIECE.findall(self.bytes_of(arg).decode("latin-1"))
-        found = [part for text, *part in pieces if not text]
-        self.refuse_if(len(found) != len(rest) or any("*" in part[1] + part[2] for part in found),
-                       "format that has other values, or a width of *", arg)
+    def format(self, literal, values):
+        """A text, or a conversion of each value by its flags, width, precision, length and letter."""
+        pieces = PIECE.findall(self.bytes_of(literal).decode("latin-1"))
+        self.refuse_if([text for text, *_ in pieces].count("") != len(values), "format with another number of values")
         return pieces
 
     def l_printf(self, args, shown="diuxXoc"):
@@ -44,7 +38,7 @@ class Library(Statements):
             self.refuse_if(part[4] not in "diuxXocsp", f"conversion %{part[4]}")
             if part[4] in shown:
                 printed.append(self.shown_number(part, value))
-            elif value.height > 2 and (value.type.kind == "int" or value.bare().op in PLACES) or value.calls:
+            elif value.height > 2 and (value.type.kind == "int" or value.op in PLACES) or value.calls:
                 self.spilled(value)  # what it reads is read, though nothing is printed
         for value in [self.spilled(value) if value.calls and len(printed) > 1 else value for value in printed]:
             self.emit("print(%s);", value)
@@ -55,7 +49,6 @@ class Library(Statements):
 
     def shown_number(self, part, value):
         """The number that a conversion shows of its argument."""
-        self.refuse_if(value.type.kind != "int", f"%{part[4]} of {value.type.shown()}")
         name = {"hh": "char", "h": "short", "": "int"}.get(part[3], "long")
         value = convert(value, "u" + name if part[4] in "uxXo" else name)
         shown = value.type.name == "ulong" and (value.number is None or value.number < 0)
@@ -77,34 +70,24 @@ class Library(Statements):
         return self.inlined(self.functions["__sharc_end"], [s, room, at])
 
     def l_memcpy(self, args):
+        """Also memset, where a number is copied: to elements of more than one byte 0."""
         to, source = (self.stable(self.value(arg)) for arg in args[:2])
-        self.refuse_if(to.type.to.base().key() != source.type.to.base().key(), "memcpy between different types")
-        self.counting(self.elements(to, args[2]), lambda at: self.copy(self.deref(to, at), self.deref(source, at)))
+        same = source.type.kind == "int" and (source.null() or self.size(to.type.to) == 1)
+        self.refuse_if(not same and to.type.to.base() != source.type.to.base(), "memcpy of another type")
+        length = self.stable(self.count(to.type.to, self.factors(self.value(args[2]))))
+        self.counting(length, lambda at: self.copy(self.deref(to, at), source if same else self.deref(source, at)))
         return to
 
-    def l_memset(self, args):
-        to, byte = (self.stable(self.value(arg)) for arg in args[:2])
-        self.refuse_if(not byte.null() and self.size(to.type.to)[0] != 1, "memset with another value than 0")
-        act = self.copy if byte.null() else lambda place: self.put(place, byte)
-        self.counting(self.elements(to, args[2]), lambda at: act(self.deref(to, at)))
-        return to
-
-    def elements(self, to, size):
-        """How many elements of what a pointer points to a size in bytes is."""
-        made, place = self.stable(self.count(to.type.to, self.factors(self.value(size)))), to.place()
-        one = place and place.op not in ("element", "at") and to.type.to.key() == place.type.key()
-        self.refuse_if(one and made.number != 1, "size of more than the object")
-        return made
+    l_memset = l_memcpy
 
     def factors(self, size):
         """A size in bytes as values that are multiplied."""
-        size = size.bare()
         multiplied = size.op in ("*", "__sharc_product64")
         return [factor for arg in size.args for factor in self.factors(arg)] if multiplied else [self.stable(size)]
 
     def count(self, kind, factors):
         """How many objects of a type such a size is."""
-        size, constant = self.size(kind)[0], math.prod(f.number for f in factors if f.number is not None)
+        size, constant = self.size(kind), math.prod(f.number for f in factors if f.number is not None)
         self.refuse_if(not size or constant % size, "size that is not a number of elements of one type")
         made = number(constant // size, "int" if constant < 1 << 31 else "long")
         for factor in [factor for factor in factors if factor.number is None]:
@@ -115,12 +98,11 @@ class Library(Statements):
         """malloc within an expression: by a variable, which is cast away."""
         made = self.temporary(self.pointer(VOID))
         self.allocate(made, args)
-        return Expr("scast", (made,), made.type, height=3)
+        return Expr("scast", (made, made.type), made.type, height=3)
 
     l_calloc = l_malloc
 
     def allocate(self, place, args):
-        self.refuse_if(place.type.kind != "ptr", "pointer as a number")
         node, factors = place.type.node, [factor for arg in args for factor in self.factors(self.value(arg))]
         place = self.stable_place(place)
         node.mark("heap")
@@ -133,15 +115,8 @@ class Library(Statements):
 
     def l_free(self, args):
         value = self.value(args[0])
-        if value.null():
-            return
-        value = value.bare() if value.bare().op in PLACES else self.spilled(value)
-
-        def freed():
-            how = self.how(self.class_of(value))
-            self.refuse_if(how not in (*HEAP, "none"), "free of a pointer to a global")
-            return f"free({self.text(value)});" if how != "none" else ""
-        self.later(freed, value)
+        value = value if value.op in PLACES or value.null() else self.spilled(value)
+        self.later(lambda: f"free({self.text(value)});" if self.how(self.class_of(value)) in HEAP else "", value)
 
     def l_sharc_stop(self, args):
         """Stops the thread, by a division by 0 in a file whose name says what it stands for."""
@@ -159,7 +134,7 @@ class Library(Statements):
     def l_sharc_scast(self, args):
         kind, place = self.type(args[0].to_type), self.visit(args[1])
         place.type.node.unite(kind.node)
-        return Expr("scast", (place,), kind, height=3)
+        return Expr("scast", (place, kind), kind, height=3)
 
     def l_sharc_give(self, args):
         return self.given(self.value(args[0]))

@@ -35,8 +35,7 @@ class Locksets:
             before, self.accesses = (self.entry, len(self.threads)), {}
             self.entry = dict.fromkeys(front.thread_functions(), frozenset())
             for self.function in front.functions.values():
-                self.first = before[0].get(self.function, frozenset())
-                self.follow(self.function.lines, self.first)
+                self.follow(self.function.lines, before[0].get(self.function, frozenset()))
 
     def follow(self, lines, held):
         """The locks that are held after lines, or None where nothing is reached, of those that are held before."""
@@ -44,7 +43,7 @@ class Locksets:
             for at, part in enumerate(line.parts):
                 if isinstance(part, Expr):
                     written = at == 0 and line.text.startswith("%s = ")
-                    self.event(part, line, written, self.first if held is None else held)
+                    self.event(part, line, written, held or frozenset())
             ends = [self.follow(block, held) for block in line.blocks]
             reached = [end for end in ends if end is not None]
             held = frozenset.intersection(*reached) if reached else None if ends else held
@@ -67,7 +66,7 @@ class Locksets:
         place = tree
         while place.op == "element":
             place = place.args[0]
-        if tree.op not in PLACES or line.header and not tree.source or place.type.base().kind not in ("int", "ptr"):
+        if tree.op not in PLACES or place.type.base().kind not in ("int", "ptr"):
             return
         key = self.function, id(place.source or place)
         name, prefix = spelled(place), None

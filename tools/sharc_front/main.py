@@ -38,9 +38,9 @@ def guarded(words):
         if words.command == "--locks":
             return "\n".join([*Locksets(front).proposals(), ""]), front.user, []
         return front.program(), front.user, front.notes
+    except Refusal:
+        raise
     except Exception as error:
-        if isinstance(error, Refusal) or os.environ.get("SHARC_FRONT_DEBUG"):
-            raise
         what = f"program that the front does not understand ({type(error).__name__}: {error})"
         raise Refusal(((words.file, 1), what)) from None
 
@@ -58,11 +58,11 @@ def main(arguments):
     if words.command in (None, "--locks"):
         sys.stdout.write(text)
         return 0
-    program, rest = os.environ.get("SHARC") or str(TOP / "sharc"), words.rest
-    if words.command in ("run", "record") and not any(word.startswith("--granules") for word in rest):
-        rest = [*rest, "--granules", "65536"]
+    program, called = os.environ.get("SHARC") or str(TOP / "sharc"), [words.command, *words.rest]
+    if words.command in ("run", "record") and not any(word.startswith("--granules") for word in words.rest):
+        called += ["--granules", "65536"]
     try:
-        done = subprocess.run([program, words.command, *rest], input=text.encode(), stdout=subprocess.PIPE, check=False)
+        done = subprocess.run([program, *called], input=text.encode(), stdout=subprocess.PIPE, check=False)
     except OSError as error:
         sys.stderr.write(f"sharc-c: {program}: {error.strerror} (set SHARC to the built program)\n")
         return 2

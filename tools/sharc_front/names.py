@@ -5,8 +5,7 @@ import re
 from pycparser import c_generator
 
 GENERATOR = c_generator.CGenerator()
-STOPPED = re.compile(r"(thread \d+: )X3 zero divisor at (.*?): (exit\([^)]*\)|abort\(\)|assert|call through NULL)"
-                     r":(\d+)$")
+STOPPED = re.compile(r"(thread \d+: )X3 zero divisor at (.*?): (exit\([^)]*\)|abort\(\)|assert):(\d+)$")
 # how lines name an lvalue, where, and what follows
 TOLD = re.compile(r"\b(?P<what>read of|write of|cast of|free of|waits for mutex) (?P<lvalue>.*?) at (?P<file>\S+):"
                   r"(?P<line>\d+)(?: without lock (?P<lock>.*))?")
@@ -35,26 +34,22 @@ class Names:
 
     def told(self, found):
         what, lvalue, file, line, lock = found.groups()
-        known = self.of_lvalue(lvalue, file, line)
-        if lock is None:
-            return f"{what} {known} at {file}:{line}"
-        prefix, shown = (re.match(r"(.*(?:->|\.))?", name)[0] for name in (lvalue, known))
-        beside = prefix and lock.startswith(prefix)  # the lock is in the same object
-        lock = shown + self.of_words(lock[len(prefix):]) if beside else self.of_words(lock)
-        return f"{what} {known} at {file}:{line} without lock {lock}"
+        known, without = self.of_lvalue(lvalue, file, line), ""
+        if lock is not None:
+            prefix, shown = (re.match(r"(.*(?:->|\.))?", name)[0] for name in (lvalue, known))
+            beside = prefix and lock.startswith(prefix)  # the lock is in the same object
+            without = " without lock " + (shown + self.of_words(lock[len(prefix):]) if beside else self.of_words(lock))
+        return f"{what} {known} at {file}:{line}{without}"
 
     def line(self, line):
         """What is shown of one line of the program's output."""
-        stopped, checked = STOPPED.match(line), CHECKED.match(line)
-        if stopped:
-            said = {"assert": "an assertion failed"}.get(stopped[3], stopped[3])
-            return f"{stopped[1]}{said} at {stopped[2]}:{stopped[4]}\n"
-        if checked:
-            return f"{checked[1]} {self.of_lvalue(checked[4], checked[2], checked[3])}{checked[5]}\n"
+        if found := STOPPED.match(line):
+            return f"{found[1]}{'an assertion failed' if found[3] == 'assert' else found[3]} at {found[2]}:{found[4]}\n"
+        if found := CHECKED.match(line):
+            return f"{found[1]} {self.of_lvalue(found[4], found[2], found[3])}{found[5]}\n"
         if TOLD.search(line):
             return TOLD.sub(self.told, line) + "\n"
-        told = re.match(r"(.*?): (?:local|global|parameter|result|cast of) ?(\w*)", line)
-        if self.hidden and line.startswith("  "):
-            return ""
-        self.hidden = bool(told) and (told[2] in self.own or told[1].startswith("what C does that the language"))
+        if not (self.hidden and line.startswith("  ")):
+            found = re.match(r"(.*?): (?:local|global|parameter|result|cast of) ?(\w*)", line)
+            self.hidden = bool(found) and (found[2] in self.own or found[1].startswith("what C does that the language"))
         return "" if self.hidden else self.of_words(line) + "\n"

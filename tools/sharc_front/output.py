@@ -8,13 +8,12 @@ from operator import itemgetter
 
 from pycparser import c_ast as A
 from .classes import named
-from .ctype import CHAR, Refusal, Type, array
+from .ctype import CHAR, UNKNOWN, Refusal, Type, array
 from .declare import Symbol
-from .names import Names
+from .names import Names, in_c
 from .places import Places
 from .source import HEADERS, texts
-from .statements import addressed_in
-from .tree import NOTHING, Expr, number, variable
+from .tree import NOTHING, Expr, number
 
 class Front(Places):
     def __init__(self, source, words):
@@ -26,13 +25,13 @@ class Front(Places):
         self.firsts = []  # (class of &a[0], class of a): a pointer to the array, unless others of its elements have one
         self.tags, self.typedef_names = {}, {}  # by their nodes; in self.scopes they are with a blank before them
         self.names = set(source.words)
-        self.unions = set()
-        self.lines, self.loops, self.notes, self.cells, self.locals = [], [], [], 0, 0
+        self.lines, self.loops, self.notes, self.cells, self.own_names = [], [], [], 0, set()
         self.pinned, self.bound = False, None  # in a function of the headers: the place of the call, and its argument
         self.out_names, self.text_pool, self.calls_by, self.groups = {}, {}, {}, {}
-        self.numbers, self.joins, self.started, self.ends, self.records = {}, [], [], [], {}
+        self.numbers, self.joins, self.started, self.ends = {}, [], [], []
         self.reads_strings, self.helpers = False, set()
-        self.addressed = addressed_in(source.tree)
+        # the variables whose address is taken
+        self.addressed = set(re.findall(r"&(\w+)(?:\.\w+)*(?![\w.[]|->)", in_c(source.tree)))
         self.global_names = {item.name for item in source.tree.ext if isinstance(item, A.Decl)}
         self.strings = self.declare("strings", "global", array(CHAR, 1), self.here)
         self.strings.own = True
@@ -45,28 +44,30 @@ class Front(Places):
         for symbol in self.thread_functions():
             for node in self.joins if symbol.gives else []:
                 symbol.type.to.node.unite(node)
+        # the names of the struct, the function that is spawned, the one that takes the argument, the table of starts
+        self.records = {symbol: {name: self.own_name(f"{name}_{symbol.name}") for name in
+                                 ("record", "start", "take", "table")} for symbol in self.thread_functions()}
         self.settle()
         self.merge()
 
     def merge(self):
-        """Globals, or parts of them, of one type that one pointer may point to become elements of one array."""
-        while several := [root for root in self.everything() if len(root.globals) > 1 and not root.mixed]:
-            root = min(several, key=lambda root: (max(len(path) for _, path in root.globals),
-                                                  sorted(map(named, root.globals))))
-            keys, kinds = list(root.globals), [self.part(symbol.type, path) for symbol, path in root.globals]
+        """Globals of one type, or members of such structs, to which one pointer may point, become one array."""
+        several = [[*root.globals] for root in self.everything() if len(root.globals) > 1]
+        for keys in sorted(several, key=lambda keys: (max(len(path) for _, path in keys), sorted(map(named, keys)))):
+            kinds = [self.part(symbol, path).type for symbol, path in keys]
+            around = [self.part(symbol, path[:at]).type.kind for symbol, path in keys for at in range(len(path))]
             bases, starts = [kind.base() for kind in kinds], [0, *accumulate(kind.cells() for kind in kinds)]
-            inside = [self.part(symbol.type, path[:at]).kind for symbol, path in keys for at in range(len(path))]
-            alike = len({base.key() for base in bases}) == len({base.mode and base.mode[0] for base in bases}) == 1
-            root.mixed = not alike or "array" in inside or any(symbol is self.strings for symbol, _ in keys)
-            if not root.mixed:
+            apart = "array" not in around and not (around and bases[0].kind == "struct")
+            apart &= not any(symbol is self.strings or (symbol, ()) in self.groups for symbol, _ in keys)
+            if apart and len({(base, base.mode and base.mode[0]) for base in bases}) == 1:
                 name = "_".join(sorted({symbol.name for symbol, _ in keys}))[:40]
                 kind = array(bases[0].with_(const=all(base.const for base in bases)), starts.pop())
                 made = Symbol(name, "global", kind, keys[0][0].place, None, self.fresh(name), True)
-                self.groups.update({key: (made, start) for key, start in zip(keys, starts)})
-                for root, (symbol, path) in [(root, key) for root in self.everything() for key in root.globals]:
-                    for at in [at for at in range(len(path) + 1) if (symbol, path[:at]) in keys]:
-                        del root.globals[symbol, path]
-                        root.globals[made, path[at:]] = None
+                self.groups.update({key: (made, number(start)) for key, start in zip(keys, starts)})
+        for root in self.everything():
+            root.globals = dict.fromkeys((self.groups[symbol, path][0], ()) if (symbol, path) in self.groups else
+                                         (self.groups.get((symbol, ()), (symbol, 0))[0], path)
+                                         for symbol, path in root.globals)
 
     def declaration(self, symbol):
         """A local: a variable; one for each member of a struct; or an object, for an array and what has an address."""
@@ -77,7 +78,7 @@ class Front(Places):
         for path, part in parts:
             name, made = self.part_name(symbol, path), ""
             if part.kind == "array":
-                node = self.address_class(self.inner_place(variable(symbol), path)).find()
+                node = self.address_class(self.part(symbol, path)).find()
                 node.mark("heap")
                 made = " " + self.new_object(name, part.base(), number(part.cells()), self.boxes(node))
                 part = Type("ptr", to=part.base(), node=node)
@@ -85,8 +86,7 @@ class Front(Places):
         return " ".join(texts)
 
     def new_object(self, target, kind, length, boxes, inner=""):
-        """target = an object of `length` elements, or of pointers to them; `inner`: the mode of these in a struct. The
-        arrays in structs are objects of their own, made while the struct is private."""
+        """target = an object of `length` elements, or of pointers to them; `inner`: the mode of these in a struct."""
         self.refuse_if((length.number or 0) > 65536, "object of over 65536 elements")
         plain, one = self.type_text(kind.bare()).replace(" racy", ""), length.number == 1 and not boxes
         arrays = [(self.part_name(kind.name, path), field) for path, field in self.objects(kind) if not boxes]
@@ -105,34 +105,26 @@ class Front(Places):
 
     def objects(self, kind):
         """The members of a struct in an object that are objects of their own: (path, field)."""
-        leaves = self.leaves(kind, (), True)
-        return [(path, field) for path, _, field in leaves if field.alone or field.type.kind == "array"]
+        return [(path, field) for path, _, field in self.leaves(kind, (), True) if field.alone]
 
     def struct_text(self, name):
         """A struct, with pointers to objects of their own for the arrays in it."""
         texts = []
         for path, struct, field in self.leaves(Type("struct", name), (), True):
             self.here, base, stars = field.place, field.type.base(), ""
-            if field.alone or field.type.kind == "array":
+            if field.alone:
                 mode = field.type.mode or ("racy" if base.kind == "mutex" else "dynamic", None)
                 base = base if base.mode or base.atomic else base.with_(mode=mode)
                 stars = " * readonly" * (1 + self.boxes(field.made))
             shown = self.type_text(base, (struct, name, path[:-1]), False)
             texts.append(f"{shown}{stars} {self.part_name(name, path)};")
-        return f"struct {self.part_name(name)} {{ {' '.join(texts) or 'char unused;'} }};"
-
-    def grouped(self, symbol, path):
-        """Whether a part of a global has become a part of an array of several."""
-        return any((symbol, path[:at]) in self.groups for at in range(len(path) + 1))
+        return f"struct {self.part_name(name)} {{ {' '.join(texts)} }};"
 
     def global_text(self, symbol, kind, path=(), context=None):
-        """A global: a variable for each member of a struct; or an array, after the arrays in its elements, which are
-        one after the other."""
-        if self.grouped(symbol, path):
-            return ""
+        """A global: a variable for each member of a struct; or an array, after those that the arrays in it become."""
         if kind.kind == "struct":
             return " ".join(self.global_text(symbol, field.type, at, (struct, symbol, at[:-1]))
-                            for at, struct, field in self.leaves(kind))
+                            for at, struct, field in self.leaves(kind) if (symbol, at) not in self.groups)
         base, length, constant = kind.base(), kind.cells(), symbol.constants.get(path)
         inner = [self.global_text(symbol, array(field.type, length), path + at) for at, field in self.objects(base)]
         shared = ("racy", None) if base.kind == "int" and base.const else None
@@ -143,9 +135,11 @@ class Front(Places):
         return " ".join([*inner, f"{text} {name}{f' = {self.text(constant)}' if constant else ''};"])
 
     def program(self):
-        functions = [line for symbol in self.functions.values() if symbol.definition and not symbol.header
-                     for line in self.function_lines(symbol)]
-        globals_ = [symbol for symbol in self.globals if symbol.uses or not symbol.place[0].startswith(HEADERS)]
+        functions = {symbol: self.function_lines(symbol) for symbol in self.functions.values()
+                     if symbol.definition and not symbol.header}
+        functions[self.functions["main"]][1:1] = self.initialisers()
+        globals_ = [symbol for symbol in self.globals if (symbol, ()) not in self.groups and
+                    (symbol.uses or not symbol.place[0].startswith(HEADERS))]
         globals_ += dict.fromkeys(group for group, _ in self.groups.values())
         globals_ = [self.written(symbol.place, self.global_text, symbol, symbol.type) for symbol in globals_]
         globals_ += [self.written(self.here, self.record_lines, symbol) for symbol in self.thread_functions()]
@@ -164,8 +158,7 @@ class Front(Places):
             helpers += sorted(set(re.findall(r"__sharc_\w+", arithmetic[name])) - set(helpers))
         lines = enumerate([line for name in helpers for line in arithmetic[name].split("\n")], 1)
         last += [(("what C does that the language does not", at), line) for at, line in lines]
-        text = self.marked(structs + globals_ + functions + last)
-        self.refuse_if(len(text) > 1048576, "program whose lowered text is over 1048576 bytes")
+        text = self.marked(structs + globals_ + sum(functions.values(), []) + last)
         if self.refusals:
             raise Refusal(*self.refusals)
         return text
@@ -191,8 +184,8 @@ class Front(Places):
         self.here = place
         try:
             return place, act(*arguments)
-        except Refusal as refusal:
-            self.report(refusal)
+        except UNKNOWN as error:
+            self.report(error, "form that the front does not know")
             return place, "?"
 
     def shown(self, line):
@@ -215,25 +208,20 @@ class Front(Places):
                 yield place, "}"
 
     def function_lines(self, symbol):
-        """The function as lines, after what main does first."""
-        lines = [*self.flat(symbol.lines)]
-        yield self.written(symbol.place, self.heading, symbol)
-        yield from self.initialisers() if symbol.name == "main" else []
-        yield from lines
-        yield lines[-1][0] if lines else symbol.place, "}"
+        body = [*self.flat(symbol.lines)]
+        return [self.written(symbol.place, self.heading, symbol), *body, (body[-1][0] if body else symbol.place, "}")]
 
     def heading(self, symbol):
         if symbol.name == "main":
             return "int main(void) {"
-        texts = [f"{self.type_text(param.type)} {self.part_name(param, ())}" for param in symbol.params]
-        self.refuse_if(len(texts) > 16, f"function {symbol.name} with over 16 parameters")
+        texts = [f"{self.type_text(param.type)} {self.part_name(param)}" for param in symbol.params]
         return f"{self.type_text(symbol.type.to)} {self.part_name(symbol)}({', '.join(texts) or 'void'}) {{"
 
     def initialisers(self):
         """What main does before everything else."""
         for symbol in self.globals:
             for path, lines in symbol.rest:
-                if path not in symbol.constants or self.grouped(symbol, path):
+                if path not in symbol.constants or {(symbol, ()), (symbol, path)} & self.groups.keys():
                     yield from self.flat(lines)
                     self.notes.append((symbol.place, f"the initialiser of {symbol.name} is executed by main"))
         for at, byte in enumerate(b"".join(self.text_pool) if self.reads_strings else b""):
@@ -242,7 +230,7 @@ class Front(Places):
     def set_initialiser(self, symbol, values):
         """The constants that parts of a global are declared with; main assigns the rest."""
         for path, item in values:
-            lines, _ = self.captured(self.store, self.inner_place(variable(symbol), path), item)
+            lines, _ = self.captured(self.store, self.part(symbol, path), item)
             value = lines[0].parts[-1] if len(lines) == 1 and lines[0].text == "%s = %s;" else NOTHING
             if value.op == "number" and value.number > -(1 << 63) and not any(isinstance(step, int) for step in path):
                 symbol.constants.update({path: value} if value.number else {})

@@ -46,7 +46,6 @@ class Places(Threads):
         """What is called: a function of the program, or the one that calls one of several."""
         if hasattr(callee, "params"):
             return self.part_name(callee)
-        self.refuse_if(self.how(callee) != "function", "call through a pointer that is always NULL")
         if callee.find() not in self.calls_by:
             self.calls_by[callee.find()] = (self.fresh("call"), value.type.to, callee.find(), self.here)
         return self.calls_by[callee.find()][0]
@@ -54,25 +53,19 @@ class Places(Threads):
     def spot(self, place):
         base, *rest = place.args
         if place.op == "at":
-            return self.pointed(base, rest[0], place.type)
+            return self.pointed(base, rest[0], base.type.to)
         if place.op == "variable":
-            is_array, is_global = base.type.kind == "array", base.kind == "global"
+            is_global, (base, at) = base.kind == "global", self.groups.get((base, ()), (base, number(0)))
             self.refuse_if(is_global and base not in self.globals and not base.own,
                            f"variable {base.name}, which is not defined here")
+            is_array = base.type.kind == "array"
             if is_global or not is_array and not base.boxed:
-                return self.in_group(Spot(base, number(0) if is_array else None))
+                return Spot(base, at if is_array else None)
             return Spot(base, number(0), self.part_name(base), is_array and self.boxes(base.address))
         spot = self.spot(base)
         if place.op == "member":
-            return self.entered(spot, base.type.name, rest[0])
+            return self.entered(spot, base.type.base().name, rest[0])
         spot.index = plus(spot.index, times(rest[0], place.type.cells()))
-        return spot
-
-    def in_group(self, spot):
-        """The same, where a global has become a part of an array of several."""
-        if (spot.symbol, spot.path) in self.groups:
-            spot.symbol, at = self.groups[(spot.symbol, spot.path)]
-            spot.path, spot.index = (), number(at)
         return spot
 
     def entered(self, spot, struct, name):
@@ -83,7 +76,8 @@ class Places(Threads):
         if spot.index is None:
             spot.path, spot.index = spot.path + (name,), number(0) if is_array and in_global else None
             if in_global:
-                return self.in_group(spot)
+                key = (spot.symbol, spot.path)
+                return Spot(*self.groups[key]) if key in self.groups else spot
         else:
             spot.top, spot.inner = spot.top or struct, spot.inner + (name,)
         if apart and in_global:  # those of all elements are one after the other
@@ -100,20 +94,15 @@ class Places(Threads):
         if how in HEAP:
             node.pointee_type(self.here)
             return Spot(None, times(index, kind.cells()), self.text(pointer), self.boxes(node))
-        self.refuse_if(how != "global",
-                       "use of a pointer that is always NULL" if how == "none" else "dereference of a number")
+        self.refuse_if(how != "global", "use of a pointer that is always NULL or a number")
         symbol, path = next(iter(node.find().globals))
         self.reads_strings |= symbol is self.strings
-        kinds = [self.part(symbol.type, path[:at]) for at in range(len(path) + 1)]
-        spot, moves = self.spot(variable(symbol)), node.has("order")
-        for outer, step in zip(kinds, path):
-            spot = self.entered(spot, outer.base().name, step)
+        kinds = [self.part(symbol, path[:at]).type for at in range(len(path) + 1)]
+        spot, moves = self.spot(self.part(symbol, path)), node.has("order")
         arrays = [at for at, part in enumerate(kinds) if part.kind == "array"]
-        self.refuse_if(kinds[-1].base().key() != kind.base().key(),
-                       f"pointer to {kinds[-1].base().shown()} used for {kind.shown()}")
-        self.refuse_if(not arrays and (not index.null() or moves and not pointer.place()),
-                       "arithmetic on a pointer to a single object")
-        self.refuse_if(arrays and moves and arrays[-1] < len(path), "arithmetic on a pointer to a member")
+        self.refuse_if(kinds[-1].base() != kind.base(), f"pointer to {kinds[-1].shown()} used for {kind.shown()}")
+        single = arrays[-1] < len(path) and moves if arrays else not index.null() or moves and not pointer.place()
+        self.refuse_if(single, "arithmetic on a pointer to a single object or a member")
         if arrays:
             spot.index = plus(plus(self.as_number(pointer), times(index, kind.cells())), number(-1))
         return spot
@@ -121,7 +110,7 @@ class Places(Threads):
     def as_number(self, pointer):
         """A pointer to an element of a global as the number that it is, from 1."""
         place = pointer.place()
-        return plus(self.spot(place).index or number(0), number(1)) if place else pointer.bare()
+        return plus(self.spot(place).index or number(0), number(1)) if place else pointer
 
     def spot_text(self, spot):
         name = spot.pointer or self.part_name(spot.symbol, spot.path)
@@ -139,8 +128,6 @@ class Places(Threads):
         """A value, in parentheses where it binds less than `level`."""
         op, args, tight = value.op, value.args, 12
         match op:
-            case "cast":
-                return self.text(args[0], level)
             case "variable" | "member" | "element" | "at":
                 made = self.spot_text(self.spot(value))
                 if value.source is not None:
@@ -153,15 +140,14 @@ class Places(Threads):
             case "call":
                 made = f"{self.called_name(*args[:2])}({', '.join(map(self.text, args[1:]))})"
             case "scast":
-                made = f"SCAST({self.type_text(value.type)}, {self.text(args[0])})"
+                made = f"SCAST({self.type_text(args[1])}, {self.text(args[0])})"
             case "address":
                 made = self.pointer_text(value)
             case "text":
                 made = args[0]()
             case "ordered":
                 made = self.text(args[0])
-                self.refuse_if(self.how(self.class_of(args[0])) != "global",
-                               "order of pointers to objects of the heap or locals")
+                self.refuse_if(self.how(self.class_of(args[0])) != "global", "order of pointers to the heap or locals")
             case _ if op in LEVELS:
                 tight = LEVELS[op]
                 made = f"{self.text(args[0], tight)} {op} {self.text(args[1], tight + 1)}"
@@ -179,8 +165,7 @@ class Places(Threads):
         if self.how(self.class_of(value)) == "global":
             return self.text(self.as_number(value), 12)
         spot = self.spot(place)
-        self.refuse_if(spot.pointer is None or spot.inner, "address of this form")
-        self.refuse_if(not spot.boxes and not spot.index.null(),
+        self.refuse_if(spot.pointer is None or spot.inner or not spot.boxes and not spot.index.null(),
                        "pointer arithmetic on an object of the heap or a local")
         return f"{spot.pointer}[{self.text(spot.index)}]" if spot.boxes and not is_array else spot.pointer
 
@@ -210,9 +195,8 @@ class Places(Threads):
         if kind.kind == "cond":
             return "struct cond" + mode
         if kind.kind == "struct":
-            self.complete(kind, self.here)
+            self.refuse_if(not self.structs[kind.name].fields, f"struct {kind.name}, which is not defined")
             return "struct " + self.part_name(kind.name) + mode
-        self.refuse_if(kind.kind != "ptr", f"type {kind.shown()}")
         how = self.how(kind.node)
         if how not in HEAP:
             return ("long" if how == "integer" else "int") + mode

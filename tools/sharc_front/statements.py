@@ -4,27 +4,16 @@ from collections import ChainMap
 
 from pycparser import c_ast as A, c_parser
 from .classes import unify
-from .ctype import BAD, INT, VOID, Refusal, promoted
+from .ctype import BAD, INT, UNKNOWN, VOID, promoted
 from .declare import Symbol, place_of
 from .express import Expressions, Line, uncast
 from .locks import spelled
+from .names import in_c
 from .source import HEADERS
-from .tree import Expr, compare, convert, joined, number, variable
+from .tree import Expr, binary, convert, joined, number, variable
 
 # the parameters of main: how many words there are, and the words
 ARGUMENTS = "void main(void) {{ int {} = {}; char *{}[] = {{ {} 0 }}; }}"
-
-def addressed_in(tree):
-    """The names of the variables whose address is taken."""
-    found, todo = set(), [tree]
-    for node in todo:  # which grows
-        todo += node
-        if isinstance(node, A.UnaryOp) and node.op == "&":
-            inner = node.expr
-            while isinstance(inner, A.StructRef) and inner.type == ".":
-                inner = inner.name
-            found.add(getattr(inner, "name", None))
-    return found
 
 def items_of(node):
     """The statements of a block, or the one that stands for a block."""
@@ -40,8 +29,8 @@ class Statements(Expressions):
                     self.lowered(node)
                 else:
                     self.blocked(self.lowered, node)
-            except Refusal as refusal:
-                self.report(refusal)
+            except UNKNOWN as error:
+                self.report(error, f"`{in_c(node)[:60]}`, of a form that the front does not know")
                 if isinstance(node, (A.Decl, A.Typedef)) and node.name:
                     self.scopes[node.name] = BAD
 
@@ -72,10 +61,8 @@ class Statements(Expressions):
             case A.If():
                 test = self.value(node.cond)
                 self.branch(test, self.body(node.iftrue), self.body(node.iffalse))
-            case A.While():
-                self.loop(node.cond, [], node.stmt)
-            case A.DoWhile():
-                self.loop(node.cond, [], node.stmt, ends=True)
+            case A.While() | A.DoWhile():
+                self.loop(node.cond, [], node.stmt, ends=isinstance(node, A.DoWhile))
             case A.For():
                 self.statements(items_of(node.init))
                 self.loop(node.cond, self.body(node.next), node.stmt)
@@ -101,16 +88,15 @@ class Statements(Expressions):
 
     def declare_local(self, symbol, values=()):
         """Declares a local, by a name that no other of the function has, and gives it the values of its initialiser."""
-        self.locals += not symbol.own  # which own_name counts
         symbol.loop, taken = len(self.loops), symbol.name in self.own_names or symbol.name in self.global_names
         symbol.out = self.own_name(symbol.name) if symbol.own else self.fresh(symbol.name) if taken else symbol.name
-        self.own_names.add(symbol.name)
+        self.own_names.add(symbol.out)
         if self.pinned and self.bound and not symbol.own:  # one of the headers is told as what it is called for
             symbol.name = self.bound
         if symbol.kind == "local":
             self.later(lambda: self.declaration(symbol), declares=True)
         for path, item in values:
-            self.blocked(self.store, self.inner_place(variable(symbol), path), item)
+            self.blocked(self.store, self.part(symbol, path), item)
 
     def loop(self, cond, step, body, around=None, ends=False):
         """`step` is at the end of the body, and before each continue: self.loops has it for each loop around, and the
@@ -144,10 +130,9 @@ class Statements(Expressions):
         at, again = self.temporary(INT, number(default)), self.temporary(INT, number(0))
         self.scopes[at.args[0].out] = at
         for chosen, case in enumerate(cases):
-            self.refuse_if(not isinstance(case, (A.Case, A.Default)), "statement before the first case of a switch")
             if isinstance(case, A.Case):
-                label = number(self.constant(case.expr, "case that is not constant"), kind)
-                self.emit(f"if (%s) %s = {chosen};", compare("==", value, label, kind), at)
+                label = number(self.constant(case.expr), kind)
+                self.emit(f"if (%s) %s = {chosen};", binary("==", value, label, kind), at)
             self.refuse_if(any(isinstance(part, (A.Decl, A.DeclList)) for part in case.stmts) and
                            chosen + 1 < len(cases), "declaration in a case that is not the last, outside a block")
             reached = A.BinaryOp("<=", A.ID(at.args[0].out), A.Constant("int", str(chosen)))
@@ -173,26 +158,26 @@ class Statements(Expressions):
         self.scopes[item.name] = item
 
     def prototype(self, decl):
-        """The symbol of a function, with its parameters."""
+        """The symbol of a function, with its parameters if it is not defined yet."""
         kind, place = self.type(decl.type), place_of(decl, self.here)
         symbol = self.functions.setdefault(decl.name, Symbol(decl.name, "function", kind, place))
         self.scopes.maps[-1][decl.name] = symbol
+        unify(symbol.type, kind)
         if symbol.definition is None:
-            unify(symbol.type, kind)
-            names = [getattr(param, "name", None) for param in decl.type.args.params] if decl.type.args else []
-            symbol.type, symbol.params = kind, [self.declare(name or "unnamed", "param", param, decl)
-                                                for name, param in zip(names, kind.params or ())]
+            symbol.type, names = kind, [param.name for param in decl.type.args.params] if kind.params else []
+            symbol.params = [self.declare(name or "unnamed", "param", param, decl)
+                             for name, param in zip(names, kind.params or ())]
         return symbol
 
     def s_FuncDef(self, item):
         symbol = self.prototype(item.decl)
-        self.refuse_if(item.param_decls or symbol.type.name == "...",
-                       "function definition in the old style" if item.param_decls else "variable arguments", item)
+        self.refuse_if(item.param_decls, "function definition in the old style", item)
+        self.refuse_if(symbol.type.name == "...", "variable arguments", item)
         symbol.definition, symbol.header = item, place_of(item.decl)[0].startswith(HEADERS)
         if not symbol.header:
-            self.function, self.loops, self.here, self.locals, self.own_names = symbol, [], symbol.place, 0, set()
+            self.function, self.loops, self.here, self.own_names = symbol, [], symbol.place, set()
             symbol.lines = self.captured(self.function_body, symbol, inner=True)[0]
-            self.refuse_if(self.locals > 200, f"function {symbol.name} with over 200 variables", symbol.place)
+            self.refuse_if(len(self.own_names) > 200, f"function {symbol.name} with over 200 variables", symbol.place)
             self.function = None
 
     def function_body(self, symbol):

@@ -4,7 +4,6 @@ from string import Template
 
 from pycparser import c_ast as A
 from .classes import HEAP
-from .ctype import VOID
 from .express import uncast
 from .library import Library
 from .source import texts
@@ -24,19 +23,17 @@ class Threads(Library):
     def created(self, target, attributes, start, arg):
         self.value(attributes)  # those that can be set change nothing here
         place, start = self.stable_place(self.deref(self.value(target))), self.stable(self.value(start))
-        kind = start.type.to if start.type.kind == "ptr" else VOID
-        self.refuse_if(kind.kind != "func" or len(kind.params or ()) != 1, "thread function of this form")
         self.started.append(start.type.node)
         value = self.value(arg)
         local = value.place() and value.place().local()
         if local:
             local.started.append(len(self.loops))
-        value = self.given(self.fitting(value, kind.params[0]), True)
+        value = self.given(self.fitting(value, start.type.to.params[0]), True)
 
         def lines():
             """Starts one of the functions that `start` may be."""
             functions = start.type.node.find().functions
-            texts = [START.substitute(self.record(symbol), own=self.own_name("own"), given=self.own_name("given"),
+            texts = [START.substitute(self.records[symbol], own=self.own_name("own"), given=self.own_name("given"),
                                       target=self.text(place), argument=self.text(value)) for symbol in functions]
             return texts[0] if len(texts) == 1 else " ".join(f"if ({self.text(start)} == {self.numbers[symbol]}) {text}"
                                                              for symbol, text in zip(functions, texts))
@@ -71,33 +68,24 @@ class Threads(Library):
         alone = self.boxes(local.address) if whole is not place else local.started == [local.loop]
         return alone and self.how(value.type.node) in HEAP
 
-    def record(self, symbol):
-        """Names: of the struct, the function that is spawned, the one that takes the argument, the table of starts."""
-        if symbol not in self.records:
-            self.records[symbol] = {name: self.own_name(f"{name}_{symbol.name}")
-                                    for name in ("record", "start", "take", "table")}
-        return self.records[symbol]
-
     def record_lines(self, symbol):
-        self.refuse_if(len(symbol.params) != 1 or symbol.params[0].type.kind != "ptr" or symbol.type.to.kind != "ptr",
-                       f"thread function {symbol.name} whose parameter or result is no pointer", symbol.place)
+        kinds = [param.type.kind for param in symbol.params] + [symbol.type.to.kind]
+        self.refuse_if(kinds != ["ptr", "ptr"], f"thread function {symbol.name}, not of pointers", symbol.place)
         argument, result = symbol.params[0].type, self.type_text(symbol.type.to.bare())
-        return RECORD.substitute(self.record(symbol), function=self.part_name(symbol), result=result,
+        return RECORD.substitute(self.records[symbol], function=self.part_name(symbol), result=result,
                                  argument=self.type_text(argument.bare()), none=self.null_text(argument.node))
 
     def l_pthread_join(self, args):
-        thread, result = self.stable(self.value(args[0])), uncast(args[1])
+        thread, result = self.stable(self.value(args[0])), self.value(uncast(args[1]))
         self.emit("join(%s);", thread)
-        if not isinstance(result, A.UnaryOp) or result.op != "&":
-            given = self.captured(self.value, result)[1]
-            return self.refuse_if(not given.null(), "result of a thread taken in this form")
-        place = self.stable_place(self.visit(result.expr))
-        self.refuse_if(place.type.kind != "ptr", "result of a thread taken in this form")
+        if result.null():
+            return
+        place = self.stable_place(self.deref(result))
+        self.refuse_if(place.type.kind != "ptr", "result of a thread that is no pointer")
         self.joins.append(place.type.node)
         self.put(place, number(0))
-
         self.later(lambda: " ".join(
-            RESULT.substitute(self.record(symbol), thread=self.text(thread), target=self.text(place),
+            RESULT.substitute(self.records[symbol], thread=self.text(thread), target=self.text(place),
                               none=self.null_text(place.type.node))
             for symbol in self.thread_functions() if symbol.gives), place)
 
@@ -105,6 +93,5 @@ class Threads(Library):
         """In main its end, else that of the thread function."""
         if self.function.name == "main":
             return self.emit("return 0;")
-        self.refuse_if(self.function.type.to.kind != "ptr", "pthread_exit outside a thread function")
         self.ends.append((self.function, self.here))
         self.s_Return(A.Return(args[0]))

@@ -28,19 +28,20 @@ class Expr:
     Or a value: what is in a place; number; operators on integers, also those of headers/arithmetic.sharc; a cast,
     which changes nothing but the type; address(place), also of the first element of an array; ordered(pointer), its
     number; and text(what gives it, places ..), which is known when all of the program was read, as NULL is. Those with
-    effects are call(function, values ..) and scast(place); they are evaluated once, where they are in a line."""
+    effects are call(function, values ..) and scast(place, type); they are evaluated once, where they are in a line."""
     op: str
     args: tuple
     type: Type
     number: int = None  # of a constant
-    wide: bool = False  # whether its type in the text is long
+    wide: bool = None  # whether its type in the text is long
     height: int = 1  # of a place that others than the function may change 3, as of a call
     source: object = None  # of a place: how it was written
     given: bool = False  # a struct that a call gave: the object has to be freed
     with_ = replace
 
     def __post_init__(self):
-        self.wide |= self.op in (*PLACES, "call") and self.type.wide()
+        if self.wide is None:
+            self.wide = self.op in (*PLACES, "call") and self.type.wide()
         if self.op in PLACES:
             self.height = 1 if self.op == "variable" and not self.args[0].shared else 3
         self.calls = self.op in ("call", "scast") or any(arg.calls for arg in self.args if isinstance(arg, Expr))
@@ -50,12 +51,8 @@ class Expr:
 
     def typed(self, type):
         """The same with another type of C, whose cell holds it."""
-        if self.number is not None and type.kind == "int":
-            return number(self.number, type.name)
-        return Expr("cast", (self,), type, self.number, self.wide, self.height)
-
-    def bare(self):
-        return self.args[0].bare() if self.op == "cast" else self
+        constant = self.number is not None and type.kind == "int"
+        return number(self.number, type.name) if constant else self.with_(type=type)
 
     def values(self):
         """The values in it: of a place its indices, and the pointer to it."""
@@ -64,7 +61,7 @@ class Expr:
 
     def place(self):
         """What it is the address of, or the array that it is the first element of."""
-        return self.bare().args[0] if self.bare().op == "address" else None
+        return self.args[0] if self.op == "address" else None
 
     def local(self):
         """The local variable that a place is the whole of or a member of."""
@@ -118,10 +115,12 @@ def folded(op, left, right, name):
 
 def binary(op, left, right, name):
     """left op right in the C type `name`, to which both operands are converted (the left one alone for shifts)."""
+    below = all(side.number >= 0 if side.number is not None else side.type.name in UNSIGNED - {"ulong"}
+                for side in (left, right))  # whether both as an unsigned long are less than 2^63
     left, right = convert(left, name), right if op in ("<<", ">>") else convert(right, name)
     value = folded(op, left, right, name) if None not in (left.number, right.number) else None
-    if value is not None:
-        return value
+    if value is not None or op in COMPARED:
+        return value or compared(op, left, right, name == "ulong" and not below)
     small = op in ("+", "-") and right.number is not None and abs(right.number) <= 65536
     if name == "ulong" and op in NAMES64 and not small or name == "uint" and op == "*":
         return joined("__sharc_product32" if name == "uint" else NAMES64[op], name, left, right)
@@ -129,13 +128,9 @@ def binary(op, left, right, name):
         left = joined("+", name, left, number(0, "long"))  # of type long in the text
     return convert(joined(op, "long" if name == "uint" and op in ("+", "-", "<<") else name, left, right), name)
 
-def compare(op, left, right, name):
-    small = all(side.number >= 0 if side.number is not None else side.type.name in UNSIGNED - {"ulong"}
-                for side in (left, right))  # whether both as an unsigned long are less than 2^63
-    left, right = convert(left, name), convert(right, name)
-    if None not in (left.number, right.number):
-        return folded(op, left, right, name)
-    if name != "ulong" or op in ("==", "!=") or small:
+def compared(op, left, right, by_bits):
+    """`by_bits`: one of them may be an unsigned long of 2^63 or more."""
+    if op in ("==", "!=") or not by_bits:
         return joined(op, "int", left, right)
     less = joined("__sharc_below64", "int", *((right, left) if op in (">", "<=") else (left, right)))
     return less if op in ("<", ">") else joined("!", "int", less)

@@ -28,6 +28,7 @@ static inline int __sharc_attributes(void *object, void *none) { return 0; }
 #define __volatile__
 #define __func__ ""
 #define __FUNCTION__ ""
+#define _Exit(code) exit(code)
 /* and what is refused */
 #define _Thread_local __sharc_refuse("variable of each thread")
 #define __thread __sharc_refuse("variable of each thread")
