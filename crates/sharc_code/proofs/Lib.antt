@@ -1,4 +1,5 @@
 mod Imports
+pub mod Aims
 pub mod ByTurns
 pub mod Failing
 pub mod Idling

@@ -61,7 +61,7 @@ module _ (laws : TheLaws) (x : Targets) (code : Code) (s : Shape) (ls : Labels) 
     ungiven (Instr.Give r site) is e =
         let same : ref m r ≡ o = cc in
         let low : 2 * k < st.cells (ref m r) = subst (λ o. 2 * k < st.cells o) (sym same) inside in
-        let none = given_cleared laws.run.turns.outcomes laws.shadow laws.state laws.cells laws.pointers x code s ls typed.wt typed.fits g world st one run.1 fresh w.remains w.cleared r site is k low u in
+        let none = given_cleared laws.run.turns laws.shadow laws.state laws.cells laws.pointers x code s ls typed.wt typed.fits g world st one run.1 fresh w.remains w.cleared r site is k low u in
         yes (sym bit ∙ ap (λ o. stands (word_at g (o + 1 + k)) u) (sym same) ∙ none)
     ungiven _ is e = let f : None ≡ Some o = e in cc
 
@@ -69,7 +69,7 @@ module _ (laws : TheLaws) (x : Targets) (code : Code) (s : Shape) (ls : Labels) 
     unfreed_at r layout site is (Uncounts all) at e =
         let same : ref m r ≡ o = cc in
         let low : 2 * k < st.cells (ref m r) = subst (λ o. 2 * k < st.cells o) (sym same) inside in
-        let none = freed_cleared laws.run.turns.outcomes laws.shadow laws.state laws.cells laws.pointers x code s ls typed.wt typed.fits g world st one run.1 fresh w.remains w.cleared r layout site all is at k low u in
+        let none = freed_cleared laws.run.turns laws.shadow laws.state laws.cells laws.pointers x code s ls typed.wt typed.fits g world st one run.1 fresh w.remains w.cleared r layout site all is at k low u in
         yes (sym bit ∙ ap (λ o. stands (word_at g (o + 1 + k)) u) (sym same) ∙ none)
     unfreed_at r layout site is _ at e = let f : None ≡ Some o = e in cc
 

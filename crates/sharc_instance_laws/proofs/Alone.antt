@@ -1,5 +1,5 @@
 -- Of a run in which one thread makes all turns each event is that thread's; so no other thread has begun, and nothing is in flight.
-use Rattle.sharc_instance_laws.proofs.Imports.{◌≡◌, ℕ, ℤ, pos, zero, suc, ◌+◌, Bool, true, false, ◌||◌, ◌==◌, List, [], ◌∷◌, ◌++◌, map, reverse, None, Some, refl, sym, ap, subst, ◌∙◌, Option, if◌then◌else◌, SourceEvent, Code, Instr, Load, Store, LoadRef, Exchange, New, TakeCell, TakeLocal, Give, Free, Lock, Unlock, Spawn, Join, Print, Start, Exit, CondEnter, CondWait, CondSignal, CondBroadcast, Shape, Stage, Makes, Uncounts, Begins, Enters, Withdraws, WithdrawsFrom, Wakes, Cell, Register, Machine, instr_at, ref, Said, Turn, Owns, paired, result_of, told_by, with_told, in_exit, in_free, in_new, in_signal, in_spawn, in_start, new_event, nobody, said, take_local, NumbersAreOwn, Erase, one_thread, place_after, waits_in, NewView, NewStage, Length, told_in, Assignment, Begun, Labels, history_of, NothingIsInFlight, reverse_aux}
+use Rattle.sharc_instance_laws.proofs.Imports.{◌≡◌, ℕ, ℤ, pos, zero, suc, ◌+◌, Bool, true, false, ◌||◌, ◌==◌, List, [], ◌∷◌, ◌++◌, map, reverse, None, Some, refl, sym, ap, subst, ◌∙◌, Option, if◌then◌else◌, SourceEvent, Code, Instr, Shape, Stage, Makes, Uncounts, Begins, Enters, Withdraws, WithdrawsFrom, Wakes, Cell, Register, Machine, instr_at, ref, Said, Turn, Owns, paired, result_of, told_by, with_told, in_exit, in_free, in_new, in_signal, in_spawn, in_start, new_event, nobody, said, take_local, NumbersAreOwn, Erase, one_thread, place_after, waits_in, NewView, NewStage, Length, told_in, Assignment, Begun, Labels, history_of, NothingIsInFlight, reverse_aux}
 
 -- ---- the thread of an event is that of the machine that says it
 abbrev Is : ℕ → Option SourceEvent → Type 0
@@ -50,26 +50,26 @@ module _ (code : Code) (m : Machine) (found elements : ℕ) where
   of_signal cell site _ = of_nobody cell site found
 
   of_said : (i : Instr) → Is m.own.number (said code i m found elements)
-  of_said (Load r cell site) = refl
-  of_said (Store r cell site) = refl
-  of_said (LoadRef cell site) = refl
-  of_said (Exchange r cell site) = refl
-  of_said (TakeCell r cell site) = refl
-  of_said (TakeLocal r from site) = of_take site (ref m from)
-  of_said (Give r site) = refl
-  of_said (New r count cells site) = of_new site cells m.own.stage
-  of_said (Free r layout site) = of_free r site m.own.stage
-  of_said (Lock cell site) = of_either m.own.number (found == 0) _ None refl tt
-  of_said (Unlock r cell site) = refl
-  of_said (Spawn r function from site) = of_spawn function from site m.own.stage
-  of_said (Join r site) = of_either m.own.number (found == 0 || (found == 1 || found == 2)) None _ tt refl
-  of_said (Print r site) = refl
-  of_said (Start site) = of_start m.own.stage
-  of_said Exit = of_exit m.own.stage
-  of_said (CondEnter cell site) = refl
-  of_said (CondWait cell site) = of_either m.own.number (waits_in found m.own.number) None _ tt refl
-  of_said (CondSignal cell site) = of_signal cell site m.own.stage
-  of_said (CondBroadcast cell site) = refl
+  of_said (Instr.Load r cell site) = refl
+  of_said (Instr.Store r cell site) = refl
+  of_said (Instr.LoadRef cell site) = refl
+  of_said (Instr.Exchange r cell site) = refl
+  of_said (Instr.TakeCell r cell site) = refl
+  of_said (Instr.TakeLocal r from site) = of_take site (ref m from)
+  of_said (Instr.Give r site) = refl
+  of_said (Instr.New r count cells site) = of_new site cells m.own.stage
+  of_said (Instr.Free r layout site) = of_free r site m.own.stage
+  of_said (Instr.Lock cell site) = of_either m.own.number (found == 0) _ None refl tt
+  of_said (Instr.Unlock r cell site) = refl
+  of_said (Instr.Spawn r function from site) = of_spawn function from site m.own.stage
+  of_said (Instr.Join r site) = of_either m.own.number (found == 0 || (found == 1 || found == 2)) None _ tt refl
+  of_said (Instr.Print r site) = refl
+  of_said (Instr.Start site) = of_start m.own.stage
+  of_said Instr.Exit = of_exit m.own.stage
+  of_said (Instr.CondEnter cell site) = refl
+  of_said (Instr.CondWait cell site) = of_either m.own.number (waits_in found m.own.number) None _ tt refl
+  of_said (Instr.CondSignal cell site) = of_signal cell site m.own.stage
+  of_said (Instr.CondBroadcast cell site) = refl
   of_said _ = tt
 
 -- ---- the events of a run

@@ -18,7 +18,7 @@ pub use Rattle.sharc_word.specs.declared.step.WordStep.{WordStep}
 pub use Rattle.sharc_heap.specs.{State.NewView, declared.stage.NewStage.NewStage, declared.stage.NewStage.TheVariants.Length}
 unfoldable pub use Rattle.sharc_heap.specs.Block.{block_of, doubled}
 pub use Rattle.sharc_locks.specs.Waiters.{waits_in}
-pub use Rattle.sharc_code.specs.{Laws.RunLaws, Layout.Fits, Machine.{Machine, instr_at, ref}, Opening.opening_words, Path.{may_go, most_ints, most_refs}, Ranges.{GlobalsFit, NumbersFit, end_place, first_place}, Runs.{Answered, Global, IsOf, IsRun, MayTurn, OneThread, Owns, Said, Turn, after_turn, at, is_started, made_event, made_now, opening_of, paired, result_of, step_of, told_by, turn_by, with_told}, Says.{in_exit, in_free, in_new, in_signal, in_spawn, in_start, new_event, nobody, said, take_local}, StandingLaws.NumbersAreOwn, Waits.waits_now, Whole.{Erase, IsStuck, bounds, one_thread, place_after}, declared.code.Code.Code, declared.code.Function.{Function as Row}, declared.code.GlobalCells.GlobalCells, declared.code.Text.Text, declared.instr.Cell.Cell, declared.instr.Instr.Instr, declared.instr.Instr.TheVariants.{CondBroadcast, CondEnter, CondSignal, CondWait, Exchange, Exit, Free, Give, GlobalBounds, Join, Load, LoadRef, Lock, New, Print, Spawn, Start, Store, TakeCell, TakeLocal, Unlock}, declared.instr.Register.Register, declared.shape.Shape.Shape, declared.state.Stage.Stage, declared.state.Stage.TheVariants.{Begins, Enters, Makes, Uncounts, Wakes, Withdraws, WithdrawsFrom}, declared.state.Stop.Stop, declared.state.Stop.TheVariants.NotSole, declared.state.TheConstants.FRAMES}
+pub use Rattle.sharc_code.specs.{Laws.RunLaws, Layout.Fits, Machine.{Machine, instr_at, ref}, Opening.opening_words, Path.{may_go, most_ints, most_refs}, Ranges.{GlobalsFit, NumbersFit, end_place, first_place}, Runs.{Answered, Global, IsOf, IsRun, MayTurn, OneThread, Owns, Said, Turn, after_turn, at, is_started, made_event, made_now, opening_of, paired, result_of, step_of, told_by, turn_by, with_told}, Says.{in_exit, in_free, in_new, in_signal, in_spawn, in_start, new_event, nobody, said, take_local}, StandingLaws.NumbersAreOwn, Waits.waits_now, Whole.{Erase, IsStuck, bounds, one_thread, place_after}, declared.code.Code.Code, declared.code.Function.{Function as Row}, declared.code.GlobalCells.GlobalCells, declared.code.Text.Text, declared.instr.Cell.Cell, declared.instr.Instr.Instr, declared.instr.Register.Register, declared.shape.Shape.Shape, declared.state.Stage.Stage, declared.state.Stage.TheVariants.{Begins, Enters, Makes, Uncounts, Wakes, Withdraws, WithdrawsFrom}, declared.state.Stop.Stop, declared.state.Stop.TheVariants.NotSole, declared.state.TheConstants.FRAMES}
 pub use Rattle.sharc_flat.specs.{Flattened.{flattened, function_code, rows_of}, Flattens.{Flattens, IsMainOf, names_of}, Laid.{AreLaid, AreNamed, AreTextsIn, lies_at, lock_text_of, spot_in, with_texts, words_of}, Laws.FitsMade, Machine.Flat, Made.flat_of, Tables.{all_first_words, all_granules, globals_of, layouts_of, pointers_of}, declared.flat.Flat.{Flat as FlatCode}, declared.op.Op.Op, declared.op.Spot.Spot}
 pub use Rattle.sharc_guard.specs.{Guard.guarded, Known.dropped, declared.guarded.Guarded.Guarded}
 pub use Rattle.sharc_compile.specs.{Generated.generated, Made.IsCodeOf, OfRuns.told_in}

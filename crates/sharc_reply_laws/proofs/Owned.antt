@@ -1,5 +1,5 @@
 -- A turn tells events of its own thread.
-use Rattle.sharc_reply_laws.proofs.Imports.{◌≡◌, ℕ, zero, suc, Bool, true, false, ◌||◌, cond, List, [], ◌∷◌, ◌++◌, map, reverse, Option, Some, None, if◌then◌else◌, refl, sym, ap, ◌∙◌, subst, append-nil, filter-append, ◌==◌, nat_eq, filter, SourceEvent, waits_in, NewView, NewStage, Code, Cell, Register, Instr, Load, Store, LoadRef, Exchange, New, TakeCell, TakeLocal, Give, Free, Lock, Unlock, Spawn, Join, Print, Start, Exit, CondEnter, CondWait, CondSignal, CondBroadcast, Shape, Stage, Makes, Uncounts, Begins, Enters, Withdraws, WithdrawsFrom, Wakes, Machine, ref, instr_at, Said, Turn, result_of, said_by, told_by, with_told, elements_in, in_exit, in_free, in_new, in_signal, in_spawn, in_start, new_event, nobody, said, speaks_of, take_local, StandingLaws, Erase, one_thread, place_after, reverse_cons, same_test}
+use Rattle.sharc_reply_laws.proofs.Imports.{◌≡◌, ℕ, zero, suc, Bool, true, false, ◌||◌, cond, List, [], ◌∷◌, ◌++◌, map, reverse, Option, Some, None, if◌then◌else◌, refl, sym, ap, ◌∙◌, subst, append-nil, filter-append, ◌==◌, nat_eq, filter, SourceEvent, waits_in, NewView, NewStage, Code, Cell, Register, Instr, Shape, Stage, Makes, Uncounts, Begins, Enters, Withdraws, WithdrawsFrom, Wakes, Machine, ref, instr_at, Said, Turn, result_of, said_by, told_by, with_told, elements_in, in_exit, in_free, in_new, in_signal, in_spawn, in_start, new_event, nobody, said, speaks_of, take_local, StandingLaws, Erase, one_thread, place_after, reverse_cons, same_test}
 
 -- ---- one turn
 -- of the thread of this number, if it is one
@@ -53,26 +53,26 @@ module _ (code : Code) (m : Machine) where
   of_signal cell site found _ = of_nobody cell site found
 
   own : (i : Instr) (found elements : ℕ) → IsOwn (said code i m found elements)
-  own (Load r cell site) found elements = refl
-  own (Store r cell site) found elements = refl
-  own (LoadRef cell site) found elements = refl
-  own (Exchange r cell site) found elements = refl
-  own (New r count cells site) found elements = of_new site cells m.own.stage
-  own (TakeCell r cell site) found elements = refl
-  own (TakeLocal r from site) found elements = of_take site (ref m from) elements
-  own (Give r site) found elements = refl
-  own (Free r layout site) found elements = of_free r site elements m.own.stage
-  own (Lock cell site) found elements = choice m.own.number (found == 0) _ _ refl tt
-  own (Unlock r cell site) found elements = refl
-  own (Spawn r function from site) found elements = of_spawn function from site elements m.own.stage
-  own (Join r site) found elements = choice m.own.number (found == 0 || (found == 1 || found == 2)) _ _ tt refl
-  own (Print r site) found elements = refl
-  own (Start site) found elements = of_start found elements m.own.stage
-  own Exit found elements = of_exit m.own.stage
-  own (CondEnter cell site) found elements = refl
-  own (CondWait cell site) found elements = choice m.own.number (waits_in found m.own.number) _ _ tt refl
-  own (CondSignal cell site) found elements = of_signal cell site found m.own.stage
-  own (CondBroadcast cell site) found elements = refl
+  own (Instr.Load r cell site) found elements = refl
+  own (Instr.Store r cell site) found elements = refl
+  own (Instr.LoadRef cell site) found elements = refl
+  own (Instr.Exchange r cell site) found elements = refl
+  own (Instr.New r count cells site) found elements = of_new site cells m.own.stage
+  own (Instr.TakeCell r cell site) found elements = refl
+  own (Instr.TakeLocal r from site) found elements = of_take site (ref m from) elements
+  own (Instr.Give r site) found elements = refl
+  own (Instr.Free r layout site) found elements = of_free r site elements m.own.stage
+  own (Instr.Lock cell site) found elements = choice m.own.number (found == 0) _ _ refl tt
+  own (Instr.Unlock r cell site) found elements = refl
+  own (Instr.Spawn r function from site) found elements = of_spawn function from site elements m.own.stage
+  own (Instr.Join r site) found elements = choice m.own.number (found == 0 || (found == 1 || found == 2)) _ _ tt refl
+  own (Instr.Print r site) found elements = refl
+  own (Instr.Start site) found elements = of_start found elements m.own.stage
+  own Instr.Exit found elements = of_exit m.own.stage
+  own (Instr.CondEnter cell site) found elements = refl
+  own (Instr.CondWait cell site) found elements = choice m.own.number (waits_in found m.own.number) _ _ tt refl
+  own (Instr.CondSignal cell site) found elements = of_signal cell site found m.own.stage
+  own (Instr.CondBroadcast cell site) found elements = refl
   own _ found elements = tt
 
 -- ---- lists
