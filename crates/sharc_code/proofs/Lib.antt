@@ -13,5 +13,6 @@ pub mod Places
 pub mod Ranging
 pub mod Settled
 pub mod Standing
+pub mod Tells
 pub mod Touching
 pub mod Trying

@@ -7,7 +7,8 @@ use Rattle.sharc_code.specs.declared.instr.Instr.TheVariants as instrs
 use Rattle.sharc_code.specs.declared.state.Stage.{Stage}
 use Rattle.sharc_code.specs.declared.state.Stage.TheVariants as stages
 use Rattle.sharc_code.specs.Layout.{first_cell, next_thread_word, prints_word, state_word, function_word, argument_word}
-use Rattle.sharc_code.specs.{Layout.shadow_word, Machine.{Machine, Turn, Local, Asks, act}, Outcomes.{is_exit, is_print}}
+use Rattle.sharc_code.specs.{Layout.shadow_word, Machine.{Machine, Turn, Local, Asks, act}}
+use Rattle.sharc_code.specs.Outcomes.{is_exit, is_print}
 
 abbrev pub is_spawn : Instr → Bool
 is_spawn (instrs.Spawn r function from site) = true

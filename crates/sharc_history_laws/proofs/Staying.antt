@@ -108,7 +108,7 @@ module _ (laws : TheLaws) (x : Targets) (code : Code) (s : Shape) (ls : Labels) 
       pub stays_on : o + 1 + k < granules s → is_gone e.act ≡ true → e.thread ≢ u
       stays_on lt gone mine =
           let q : gone_said (said code i m (result_of one.event) elements) ≡ true = ap gone_said told ∙ gone in
-          let exit : is_exit i ≡ true = not_false (is_exit i) (λ no. yes (sym q ∙ not_gone code m i (result_of one.event) elements no)) in
+          let exit : is_exit i ≡ true = not_false (is_exit i) (λ no. yes (sym q ∙ not_gone code m laws.run.turns.tells i (result_of one.event) elements no)) in
           let at : m.own.stage ≡ Leaving = leaving i refl exit q in
           let left : has_left m (o + 1 + k) ≡ true = ap (λ y. has_withdrawn y m.own.table.order (is_ended m.at.state) (o + 1 + k)) at in
           let thread : u ≡ t = sym mine ∙ of.thread ∙ (st.threads t).has.number in

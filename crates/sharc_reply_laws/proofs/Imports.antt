@@ -19,9 +19,8 @@ pub use Rattle.sharc_suggest_laws.specs.Repaired.{LeastIsRepaired}
 pub use Rattle.sharc_meaning.specs.{Events.{Access, Stands, access_by, events_of, is_of}, Obeys.History, Reference.number_of, References.Begun, Runs.IsNamedAt, State.{Outcome, event_of, wants}}
 pub use Rattle.sharc_audit.specs.{Audited.{Audits, OneVerdict}, FileLaws.FileLaws, Grammar.{HasMany, IsFirstBad, text_lines}, Texts.{bad_line, verdict_line}, declared.audit.Verdict.Verdict, declared.line.EventLine.EventLine}
 pub use Rattle.sharc_word.specs.{Words.{word_after, words_after_step}, declared.step.TheConstants.THREADS, declared.step.WordEvent.WordEvent, declared.step.WordOp.WordOp, declared.step.WordStep.WordStep}
-pub use Rattle.sharc_heap.specs.{Functions.conflicts_in, ShadowWord.epoch_of, State.NewView, declared.shadow_word.Kind.Kind, declared.shadow_word.Kind.TheVariants.{Read, Write}, declared.stage.NewStage.NewStage}
-pub use Rattle.sharc_locks.specs.Waiters.{waits_in}
-pub use Rattle.sharc_code.specs.{Aims.{Aim, BuildsIn, TurnAim}, Laws.RunLaws, Layout.{Fits, count_word, granule_at, granule_of, prints_word, words_of}, Machine.{Asks, Local, Machine, Own, act, goes, instr_at, int, place, ref, step_of, stopped, tested, with_note, with_own, word, wrote}, Opening.{first_global, opening_cell, opening_words, opens_with}, Outcomes.{ComesOut, MayComeOut, TurnOutcome, own_after, state_after}, Path.{after, asked_by, begun, counted, may_go, turn}, Ranges.NumbersFit, Runs.{Answered, Global, IsRun, Said, Turn, is_started, opening_of, put, result_of, said_by, told_by, turns_of, with_told, words_now}, Says.{cell_at, elements_in, in_exit, in_free, in_new, in_signal, in_spawn, in_start, made_cell, mode_of, new_event, nobody, place_at, said, speaks_of, take_local}, Stages.IsStageOf, StandingLaws.StandingLaws, ThreadLaws.ThreadLaws, Waits.waits_now, Whole.{CheckedRun, Erase, IsStuck, bounds, one_thread, place_after}, declared.code.Code.Code, declared.code.PlaceMode.PlaceMode, declared.code.PlaceMode.TheVariants.Dynamic, declared.instr.Cell.Cell, declared.instr.Cell.TheVariants.GlobalAt, declared.instr.Instr.Instr, declared.instr.Register.Register, declared.shape.Shape.Shape, declared.state.ConflictAt.ConflictAt, declared.state.Print.{Print as PrintAt}, declared.state.Stage.Stage, declared.state.Stage.TheVariants.{Begins, Enters, Hands, Looks, Makes, Names, Uncounts, Wakes, Withdraws, WithdrawsFrom}, declared.state.Stop.Stop, declared.state.Stop.TheVariants.{Conflict, NoLock, NotSole}, declared.state.TurnState.TurnState, declared.state.TurnState.TheVariants.Stopped}
+pub use Rattle.sharc_heap.specs.{Functions.conflicts_in, ShadowWord.epoch_of, declared.shadow_word.Kind.Kind, declared.shadow_word.Kind.TheVariants.{Read, Write}}
+pub use Rattle.sharc_code.specs.{Aims.{Aim, BuildsIn, TurnAim}, Laws.RunLaws, Layout.{Fits, count_word, granule_at, granule_of, prints_word, words_of}, Machine.{Asks, Local, Machine, Own, act, goes, instr_at, int, place, ref, step_of, stopped, tested, with_note, with_own, word, wrote}, Opening.{first_global, opening_cell, opening_words, opens_with}, Outcomes.{ComesOut, MayComeOut, TurnOutcome, own_after, state_after}, Path.{after, asked_by, begun, counted, may_go, turn}, Ranges.NumbersFit, Runs.{Answered, Global, IsRun, Said, Turn, is_started, opening_of, put, result_of, said_by, told_by, turns_of, with_told, words_now}, Says.{IsSaidBy, TurnsTell, cell_at, elements_in, made_cell, mode_of, place_at, said, speaks_of, tells}, Stages.IsStageOf, StandingLaws.StandingLaws, ThreadLaws.ThreadLaws, Waits.waits_now, Whole.{CheckedRun, Erase, IsStuck, bounds, one_thread, place_after}, declared.code.Code.Code, declared.code.PlaceMode.PlaceMode, declared.code.PlaceMode.TheVariants.Dynamic, declared.instr.Cell.Cell, declared.instr.Cell.TheVariants.GlobalAt, declared.instr.Instr.Instr, declared.shape.Shape.Shape, declared.state.ConflictAt.ConflictAt, declared.state.Print.{Print as PrintAt}, declared.state.Stage.Stage, declared.state.Stage.TheVariants.{Begins, Hands, Looks, Makes, Names}, declared.state.Stop.Stop, declared.state.Stop.TheVariants.{Conflict, NoLock, NotSole}, declared.state.TurnState.TurnState, declared.state.TurnState.TheVariants.Stopped}
 pub use Rattle.sharc_cpu.specs.Thread.{ThreadView}
 pub use Rattle.sharc_threads.specs.Ends.{AreStarted, IsAt, Standing, is_enabled}
 pub use Rattle.sharc_seq.specs.{Choice.seeded, Laws.EnabledLaws, Run.{AreChosen, IsChosen, enabled}}
