@@ -204,17 +204,10 @@ module _ (p : Program) (good : IsGuarded p) where
 
     -- each statement of a body
     stays_inside : (i : Instr) → IsAtPlace p good.owner a.pc i → (x : ℤ) → Inside (after a (step p i a) x)
-    stays_inside (Instr.Constant r v) k x = goes_next k.leads
-    stays_inside (Instr.Move r from) k x = goes_next k.leads
-    stays_inside (Instr.MoveReference r from) k x = goes_next k.leads
-    stays_inside (Instr.Null r) k x = goes_next k.leads
     stays_inside (Instr.ComputeInt operator r y z site) k x = resulted r site _ x k.leads
     stays_inside (Instr.ComputeLong operator r y z site) k x = resulted r site _ x k.leads
     stays_inside (Instr.NegateInt r y site) k x = resulted r site _ x k.leads
     stays_inside (Instr.NegateLong r y site) k x = resulted r site _ x k.leads
-    stays_inside (Instr.Complement r y) k x = goes_next k.leads
-    stays_inside (Instr.Not r y) k x = goes_next k.leads
-    stays_inside (Instr.SameReference r y z) k x = goes_next k.leads
     stays_inside (Instr.ChkWidth width r site) k x = asserted _ Trap.OutOfRange site x k.leads
     stays_inside (Instr.Jump pc) k x = inl (goes_to pc k.leads)
     stays_inside (Instr.JumpIfZero r pc) k x = jumps (is_zero (int a r)) pc x k.leads.0 k.leads.1
@@ -230,33 +223,12 @@ module _ (p : Program) (good : IsGuarded p) where
     stays_inside (Instr.ChkLockLoaded site) k x = lock_inside _ _ site x k.leads
     stays_inside (Instr.Bounds r base cells field site) k x = index_inside r (int a r) cells field site _ x k.leads
     stays_inside (Instr.GlobalBounds r elements cells field site) k x = index_inside r (int a r) cells field site _ x k.leads
-    stays_inside (Instr.ChkRead cell site) k x = goes_next k.leads
-    stays_inside (Instr.ChkWrite cell site) k x = goes_next k.leads
-    stays_inside (Instr.Load r cell site) k x = goes_next k.leads
-    stays_inside (Instr.Store r cell site) k x = goes_next k.leads
-    stays_inside (Instr.LoadRef cell site) k x = goes_next k.leads
-    stays_inside (Instr.Exchange r cell site) k x = goes_next k.leads
-    stays_inside (Instr.Raise r from) k x = goes_next k.leads
-    stays_inside (Instr.RaiseLoaded r) k x = goes_next k.leads
-    stays_inside (Instr.Lower r) k x = goes_next k.leads
-    stays_inside (Instr.New r count cells site) k x = goes_next k.leads
-    stays_inside (Instr.TakeCell r cell site) k x = goes_next k.leads
     stays_inside (Instr.TakeLocal r from site) k x = takes (is_null (ref a from)) _ _ x (goes_next k.leads) (goes_next k.leads)
-    stays_inside (Instr.TestSole r site) k x = goes_next k.leads
-    stays_inside (Instr.Clear r cells) k x = goes_next k.leads
-    stays_inside (Instr.Give r site) k x = goes_next k.leads
-    stays_inside (Instr.Free r layout site) k x = goes_next k.leads
     stays_inside (Instr.Lock cell site) k x = locks_inside cell (a.held ++ cell_at p a cell ∷ []) (a.events ++ event_of (source_at p site).site (Act.Lock (cell_at p a cell)) (pos 0) ∷ []) k.leads
-    stays_inside (Instr.Unlock r cell site) k x = goes_next k.leads
     stays_inside (Instr.Spawn r function from site) k x = spawns_inside from r x (a.events ++ event_of (source_at p site).site (Act.Spawn function (argument a from)) x ∷ []) k.leads
-    stays_inside (Instr.Join r site) k x = goes_next k.leads
-    stays_inside (Instr.Print r site) k x = goes_next k.leads
     stays_inside (Instr.Start site) k x = absurd k.leads
     stays_inside Instr.Exit k x = absurd k.leads
-    stays_inside (Instr.CondEnter cell site) k x = goes_next k.leads
-    stays_inside (Instr.CondWait cell site) k x = goes_next k.leads
-    stays_inside (Instr.CondSignal cell site) k x = goes_next k.leads
-    stays_inside (Instr.CondBroadcast cell site) k x = goes_next k.leads
+    stays_inside _ k x = goes_next k.leads
 
   exits_inside : (a : Thread) (phase : Phase) (x : ℤ) → InExit a.pc a.frames → Inside (after a (exit p a phase) x)
   exits_inside a Running x h = inr h

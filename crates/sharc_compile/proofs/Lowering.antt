@@ -96,28 +96,27 @@ step_lowers p (Instr.ChkLock cell site) a = locks a (is_of_null a cell) site cel
 step_lowers p (Instr.ChkLockLoaded site) a = locks_loaded a (is_null a.pending) site
 step_lowers p (Instr.Bounds r base cells field site) a = indexes a r (int a r) cells field site (elements_of (Form.ref a base))
 step_lowers p (Instr.GlobalBounds r elements cells field site) a = indexes a r (int a r) cells field site elements
-step_lowers p (Instr.Load r cell site) a = λ x. (_, refl, refl)
-step_lowers p (Instr.Store r cell site) a = λ x. (_, refl, refl)
-step_lowers p (Instr.LoadRef cell site) a = λ x. (_, refl, refl)
-step_lowers p (Instr.Exchange r cell site) a = λ x. (_, refl, refl)
 step_lowers p (Instr.Lower r) a = (refl, refl)
-step_lowers p (Instr.New r count cells site) a = λ x. (_, refl, refl)
-step_lowers p (Instr.TakeCell r cell site) a = λ x. (_, refl, refl)
 step_lowers p (Instr.TakeLocal r from site) a = choice a [] (is_null (Form.ref a from)) (Form.goes (Form.move_ref a r from)) _ (refl, kept a) (λ x. (_, refl, refl))
-step_lowers p (Instr.Give r site) a = λ x. (_, refl, refl)
-step_lowers p (Instr.Free r layout site) a = λ x. (_, refl, refl)
 step_lowers p (Instr.Lock cell site) a = λ x. let k = base_same (Form.told a _ _ _) cell in (_, k.0, k.1)
-step_lowers p (Instr.Unlock r cell site) a = λ x. (_, refl, refl)
 step_lowers p (Instr.Spawn r function from site) a = λ x. let k = handed_same (Form.told a _ _ _) from in (_, k.0, k.1)
-step_lowers p (Instr.Join r site) a = λ x. (_, refl, refl)
-step_lowers p (Instr.Print r site) a = λ x. (_, refl, refl)
 step_lowers p (Instr.Start site) a = tt
 step_lowers p Instr.Exit a = exits p a a.phase
-step_lowers p (Instr.CondEnter cell site) a = λ x. (_, refl, refl)
-step_lowers p (Instr.CondWait cell site) a = λ x. (_, refl, refl)
-step_lowers p (Instr.CondSignal cell site) a = λ x. (_, refl, refl)
-step_lowers p (Instr.CondBroadcast cell site) a = λ x. (_, refl, refl)
-step_lowers p _ a = (refl, kept a)
+step_lowers p (Instr.Constant r v) a = (refl, kept a)
+step_lowers p (Instr.Move r from) a = (refl, kept a)
+step_lowers p (Instr.MoveReference r from) a = (refl, kept a)
+step_lowers p (Instr.Null r) a = (refl, kept a)
+step_lowers p (Instr.Complement r x) a = (refl, kept a)
+step_lowers p (Instr.Not r x) a = (refl, kept a)
+step_lowers p (Instr.SameReference r x y) a = (refl, kept a)
+step_lowers p (Instr.Jump pc) a = (refl, kept a)
+step_lowers p (Instr.ChkRead cell site) a = (refl, kept a)
+step_lowers p (Instr.ChkWrite cell site) a = (refl, kept a)
+step_lowers p (Instr.Raise r from) a = (refl, kept a)
+step_lowers p (Instr.RaiseLoaded r) a = (refl, kept a)
+step_lowers p (Instr.TestSole r site) a = (refl, kept a)
+step_lowers p (Instr.Clear r cells) a = (refl, kept a)
+step_lowers p _ a = λ x. (_, refl, refl)
 
 longer : (xs : List SourceEvent) (e : SourceEvent) → xs ≡ xs ++ e ∷ [] → ⊥
 longer xs e q = let l = ap length q in let m = length-append xs (e ∷ []) in omega arith

@@ -104,15 +104,6 @@ module _ (code : Code) (m : Machine) where
     pub freed : (r layout site all : ℕ) → i ≡ Instr.Free r layout site → m.own.stage ≡ Uncounts all → ref m r < 2 ^ 32
 
   pub about : (i : Instr) (found elements : ℕ) → AreLow i → About m.own.number (header_of i m.own.stage) (given_at i m) (freed_at i m) (said code i m found elements)
-  about (Instr.Load r c site) found elements low = record { thread = refl; makes = refl; gives = refl; frees = refl }
-  about (Instr.Store r c site) found elements low = record { thread = refl; makes = refl; gives = refl; frees = refl }
-  about (Instr.LoadRef c site) found elements low = record { thread = refl; makes = refl; gives = refl; frees = refl }
-  about (Instr.Exchange r c site) found elements low = record { thread = refl; makes = refl; gives = refl; frees = refl }
-  about (Instr.TakeCell r c site) found elements low = record { thread = refl; makes = refl; gives = refl; frees = refl }
-  about (Instr.Unlock r c site) found elements low = record { thread = refl; makes = refl; gives = refl; frees = refl }
-  about (Instr.Print r site) found elements low = record { thread = refl; makes = refl; gives = refl; frees = refl }
-  about (Instr.CondEnter c site) found elements low = record { thread = refl; makes = refl; gives = refl; frees = refl }
-  about (Instr.CondBroadcast c site) found elements low = record { thread = refl; makes = refl; gives = refl; frees = refl }
   about (Instr.TakeLocal r from site) found elements low = at_local site (ref m from) elements
   about (Instr.Give r site) found elements low = record { thread = refl; makes = refl; gives = ap (λ n. Some n) (number_back (ref m r) elements (low.given r site refl)); frees = refl }
   about (Instr.New r count cells site) found elements low = at_new site cells m.own.stage low.header
@@ -124,7 +115,7 @@ module _ (code : Code) (m : Machine) where
   about Instr.Exit found elements low = at_exit m.own.stage
   about (Instr.CondWait c site) found elements low = either m.own.number None None None (waits_in found m.own.number) _ _ none (record { thread = refl; makes = refl; gives = refl; frees = refl })
   about (Instr.CondSignal c site) found elements low = at_signal c site found m.own.stage
-  about _ found elements low = none
+  about _ found elements low = record { thread = refl; makes = refl; gives = refl; frees = refl }
 
 -- ---- accesses
 module _ (code : Code) (m : Machine) where
