@@ -6,9 +6,9 @@ abbrev Is : ℕ → Option SourceEvent → Type 0
 Is n None = Unit {0}
 Is n (Some e) = e.thread ≡ n
 
-own : (i : Instr) (m : Machine) (told : Option SourceEvent) → IsSaidBy i m told → Is m.own.number told
-own i m None h = tt
-own i m (Some e) h = h.0
+of_said : (i : Instr) (m : Machine) (told : Option SourceEvent) → IsSaidBy i m told → Is m.own.number told
+of_said i m None h = tt
+of_said i m (Some e) h = h.0
 
 -- ---- the events of a run
 abbrev AreOf : ℕ → List SourceEvent → Type 0
@@ -35,7 +35,7 @@ module _ (tell : TurnsTell) (numbers : NumbersAreOwn) (code : Code) (s : Shape) 
       let m = g.threads turn.thread in
       let o = told_by (one_thread code s) (Erase code s earlier) g turn in
       told_with 0 turn.thread o (Erase code s earlier)
-      (subst (λ (n : ℕ). Is n o) (numbers code s earlier turn.thread ∙ own.0) (own (instr_at code m.at.pc) m o (tell code (instr_at code m.at.pc) m (result_of turn.event) (paired (one_thread code s) (Erase code s earlier) g turn))))
+      (subst (λ (n : ℕ). Is n o) (numbers code s earlier turn.thread ∙ own.0) (of_said (instr_at code m.at.pc) m o (tell code (instr_at code m.at.pc) m (result_of turn.event) (paired (one_thread code s) (Erase code s earlier) g turn))))
       (erased earlier own.1)
 
   own_history : (run : List Turn) → Owns 0 run → AreOf 0 (history_of code s run)
