@@ -1,5 +1,5 @@
 -- Where the statements of lines lie.
-use Rattle.sharc_guard.proofs.Imports.{◌≡◌, ℕ, zero, suc, ◌+◌, Bool, List, [], ◌∷◌, ◌++◌, length, map, refl, sym, ap, ◌∙◌, subst, arith, Some, slice_get, get_or as slice_index_or, length-append, Instr, Start, Exit, SourcePlace, Op, Flat, Program, statement_at, source_at, expand, width, offset, place, expanded, guarded, source_of, head, own, body, tail}
+use Rattle.sharc_guard.proofs.Imports.{◌≡◌, ℕ, zero, suc, ◌+◌, Bool, List, [], ◌∷◌, ◌++◌, length, map, refl, sym, ap, ◌∙◌, subst, arith, Some, slice_get, get_or as slice_index_or, length-append, Instr, SourcePlace, Op, Flat, Program, statement_at, source_at, expand, width, offset, place, expanded, guarded, source_of, head, own, body, tail}
 
 -- the statements lie in the list from a place on
 abbrev pub HasAt : List Instr → ℕ → List Instr → Type 0
@@ -77,7 +77,7 @@ module _ (dropped : ℕ → Bool) (flat : Flat) where
   p = guarded dropped flat
 
   pub stands : (n : ℕ) (o : Op) → slice_get flat.lines n ≡ Some o → HasAt p.statements (pl n) (expand pl (dropped n) n o)
-  stands n o e = behind (Start 0 ∷ Exit ∷ []) (expanded pl dropped 0 flat.lines) (offset dropped 0 flat.lines n) (expand pl (dropped n) n o)
+  stands n o e = behind (Instr.Start 0 ∷ Instr.Exit ∷ []) (expanded pl dropped 0 flat.lines) (offset dropped 0 flat.lines n) (expand pl (dropped n) n o)
       (subst (λ z. HasAt (expanded pl dropped 0 flat.lines) (offset dropped 0 flat.lines n) (expand pl (dropped z) z o)) (omega arith) (stands_in pl dropped 0 flat.lines n o e))
 
   pub place_next : (n : ℕ) (o : Op) → slice_get flat.lines n ≡ Some o → pl n + length (expand pl (dropped n) n o) ≡ pl (n + 1)
@@ -91,7 +91,7 @@ module _ (dropped : ℕ → Bool) (flat : Flat) where
   pub statement_is : (pc : ℕ) (i : Instr) → slice_get p.statements pc ≡ Some i → statement_at p pc ≡ i
   statement_is pc i e = there p.statements pc e
     where
-      there : (g : List Instr) (pc : ℕ) → slice_get g pc ≡ Some i → slice_index_or g pc Exit ≡ i
+      there : (g : List Instr) (pc : ℕ) → slice_get g pc ≡ Some i → slice_index_or g pc Instr.Exit ≡ i
       there [] pc e = absurd (cc)
       there (x ∷ g) zero e = cc
       there (x ∷ g) (suc pc) e = there g pc e
