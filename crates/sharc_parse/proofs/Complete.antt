@@ -9,12 +9,15 @@ pub whole_unary : (y : List Word) (u : UnaryOperator) (a : Phrase) (k : Cont) �
 whole_unary [] u a k h = refl
 whole_unary (t ∷ y) u a k h = ap (λ n. then_on n (λ s. reads y s) (Stuck (t ∷ y))) (role_unary (role t) t u a k h)
 
+pub operator_step : (o : BinaryOperator) (x : Phrase) (k : Cont) → floor k ≤ strength o → core_step (Have x k) (mark (operator_mark o)) ≡ to (Want (right_of x o k))
+operator_step o x k h =
+    ap (λ r. have r x k (mark (operator_mark o))) (operating o)
+    ∙ ap (λ (s : Phrase × Cont). shift o s.0 s.1) (settle_stops (strength o) x k (weak o) h)
+    ∙ ap (λ b. cond b (to (Want (right_of x o k))) (counted o x k)) (le_true (floor k) (strength o) h)
+
 -- an operator after an operand
 pub takes : (o : BinaryOperator) (x : Phrase) (k : Cont) (y : List Word) → floor k ≤ strength o → reads_at (mark (operator_mark o) ∷ y) (Have x k) ≡ reads_at y (Want (right_of x o k))
-takes o x k y h =
-    ap (λ r. then_on (have r x k (mark (operator_mark o))) (λ s. reads y s) (Stuck (mark (operator_mark o) ∷ y))) (operating o)
-    ∙ ap (λ (s : Phrase × Cont). then_on (shift o s.0 s.1) (λ n. reads y n) (Stuck (mark (operator_mark o) ∷ y))) (settle_stops (strength o) x k (weak o) h)
-    ∙ ap (λ b. then_on (cond b (to (Want (right_of x o k))) (counted o x k)) (λ n. reads y n) (Stuck (mark (operator_mark o) ∷ y))) (le_true (floor k) (strength o) h)
+takes o x k y h = ap (λ n. then_on n (λ s. reads y s) (Stuck (mark (operator_mark o) ∷ y))) (operator_step o x k h)
 
 pub prefixed : (u : UnaryOperator) (k : Cont) (y : List Word) → reads_at (mark (unary_mark u) ∷ y) (Want k) ≡ reads_at y (Want (beneath u k))
 prefixed Not k y = refl

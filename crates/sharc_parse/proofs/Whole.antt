@@ -1,5 +1,5 @@
 -- The machine reads what the grammar has, and stops at the first fault.
-use Rattle.sharc_parse.proofs.{Imports.{◌≡◌, List, [], ◌∷◌, ◌++◌, Option, Some, None, refl, sym, ap, ◌∙◌, append_assoc, append-nil, subst, Bool, true, false, cond, Keyword, OpenParenthesis, CloseParenthesis, OpenBrace, CloseBracket, Semicolon, Comma, Ampersand, Word, keyword, mark, Part, program_words, IsProgram, EndsAt, FirstFault, Core, Top, Fixed, an_open, a_close, a_semicolon, a_comma, a_brace, a_bracket, an_ampersand, a_sizeof, State, At, fixed_word, fixed_words, is_fixed, core_step, step, Outcome, Read, Stuck, finish, then_on, reads, first_state, over}, CompleteProgram.reads_program, Sound.{so_far, Sound}, Completed.{LowCore, Completed, completed}, Within.{not_over, From, core_goes}}
+use Rattle.sharc_parse.proofs.{Imports.{◌≡◌, List, [], ◌∷◌, ◌++◌, Option, Some, None, refl, sym, ap, ◌∙◌, append_assoc, append-nil, subst, Bool, true, false, cond, Word, Part, program_words, IsProgram, EndsAt, FirstFault, Core, Top, Fixed, State, At, fixed_words, is_fixed, core_step, step, Outcome, Read, Stuck, finish, then_on, reads, first_state, over}, CompleteProgram.reads_program, Sound.{so_far, Sound}, Completed.{LowCore, Completed, completed}, Within.{not_over, From, core_goes}, Steps.fixed_is}
 
 -- a program is what is read
 pub only : (p : List Part) → IsProgram p → reads (program_words p []) first_state ≡ Read p
@@ -16,17 +16,6 @@ LowState (At fs c) = LowCore c
 abbrev pub ReachedNext : (List Word → List Word) → Word → Type 0 → Option State → Type 0
 ReachedNext f t P None = Unit {0}
 ReachedNext f t P (Some n) = Reached (λ y. f (t ∷ y)) n × (P → over n ≡ false → LowState n) × (LowState n → P × (over n ≡ false))
-
-fixed_is : (w : Fixed) (t : Word) → is_fixed w t ≡ true → t ≡ fixed_word w
-fixed_is an_open (mark OpenParenthesis) h = refl
-fixed_is a_close (mark CloseParenthesis) h = refl
-fixed_is a_semicolon (mark Semicolon) h = refl
-fixed_is a_comma (mark Comma) h = refl
-fixed_is a_brace (mark OpenBrace) h = refl
-fixed_is a_bracket (mark CloseBracket) h = refl
-fixed_is an_ampersand (mark Ampersand) h = refl
-fixed_is a_sizeof (keyword Keyword.Sizeof) h = refl
-fixed_is _ _ h = cc
 
 core_reached : (f : List Word → List Word) (c : Core) (t : Word) (o : Option State) → ((y : List Word) → so_far c y ≡ f y) → From c t o → ReachedNext f t (LowCore c) o
 core_reached f c t None e h = tt

@@ -1,5 +1,5 @@
 -- From one core to the next: what was read fits, has the words that were read, and stays within the limits.
-use Rattle.sharc_parse.proofs.{Imports.{◌≡◌, ℕ, ◌+◌, ◌≤◌, ◌<◌, List, [], ◌∷◌, length, Option, Some, None, refl, sym, ◌∙◌, arith, Bool, true, false, cond, leb-false, lt-leb, nat_le, Keyword, OpenParenthesis, CloseParenthesis, OpenBrace, CloseBrace, OpenBracket, CloseBracket, Semicolon, Comma, Arrow, Assign, Minus, Star, Exclamation, Tilde, Base, BinaryOperator, UnaryOperator, Negate, Not, Complement, Dereference, FieldOperator, ValueCall, PlaceCall, Constant, Word, name, keyword, mark, number, character, Sharing, private, readonly, racy, dynamic, locked, locked_through, Typing, Declaring, Front, parenthesis, of_value, of_place, Phrase, identifier, constant, unary, binary, Phrases, none, strength, Value, value, Doing, assign, invoke, Line, nothing, does, Sentence, line, jump, under, Opening, if_of, else_of, is_call, single, array, initially, Part, structure, global, Outer, body, items, inside, LinePlace, as_statement, as_first, DoingPlace, in_line, as_step, ValuePlace, of_doing, of_local, Asked, ExpressionPlace, condition, returning, testing, subject, valued, counting, Cont, part, beneath, right_of, fronted, indexing, arguments, NamePlace, on_top, field_of, parameter_of, local, TypePlace, naming, casting, sizing, ModePlace, before_base, at_level, Core, Want, Have, Called, Dotted, Spawning, Start, Done, Returning, ForOpen, ForTest, ForStep, Malloced, Valued, TypeWant, ModeFirst, StructWant, Typed, PathWant, PathNamed, PathThrough, Named, Fields, ArrayWant, InitialWant, InitialNegative, Top, Fixed, a_semicolon, a_bracket, State, At, or_else, to, Role, Calling, Indexing, Accessing, Operating, Ending, role, floor, settle, mallocs, want, open_call, lined, doing_end, local_line, local_end, value_end, subject_end, condition_end, return_end, test_end, leave, front_end, index_end, argument_end, end_at, counted, shift, have, dotted, called, spawning, typing_of, takes_modes, moded, mode_step, based, base_step, begin_type, struct_want, level_step, name_step, comma_step, close_type, open_type, typed, path_want, path_named, path_through, declaring_of, with_part, named_top, named_field, named_parameter, named_local, named, fields, array_want, initial_negative, initial_want, with_item, function_of, close_block, holds_items, line_start, start, is_else, done, returned, for_test, for_step, malloced, core_step, height, FewStars, FewFront, Few, LowDoing, LowInitial, line_nesting, nesting, LowPart, LowProgram, depth, around_it, crowded_line, crowded_doing, crowded_place, crowded, over_place, over_at, over_start, over_done, over_cast, over_core, test_down, subst, ap, leb-true, sharing_words, level_words, base_words, type_words, FitsType, operator_mark, access_mark, words, level, front_level, FitsFront, Fits, doing_words, line_words, written, is_declaring, is_declaration, takes_else, FitsValue, FitsDoing, FitsLine, FitsAs, parameters_words, part_words, program_words, FitAllDeclaring, FitsPart, IsProgram, fixed_words, may_declare, weak, floor_most, Jump, rules}, Completed.{LowOuter, Room, RoomToDeclare, LowDoingPlace, LowPlace, LowAround, LowName, LowType, LowMode, LowStart, LowCore, low_part_more, low_part_less, few_given_more, few_given_less, low_item_more, low_item_less, deepest_more, highest_more, few_more, few_less, around_most, depth_most}, Complete.never, CompleteProgram.MayStand, Placing.fields_fit, Sound.{so_far, Sound, outside, line_place_words, doing_place_words, around, type_place_words, mode_place_words, Outside, DoingAt, ValueAt, Around, TypeAt, ModeAt, BaseAt, program_more, is_program_more, fields_more, parameters_more, given_more, declaring_more, some_field, list_more, list_goes, all_more, items_more, fit_more, moded_sound, moded_says, based_sound, based_says, may, is_statement}}
+use Rattle.sharc_parse.proofs.{Imports.{◌≡◌, ℕ, ◌+◌, ◌≤◌, ◌<◌, List, [], ◌∷◌, length, Option, Some, None, refl, sym, ◌∙◌, arith, Bool, true, false, cond, leb-false, lt-leb, nat_le, Keyword, OpenParenthesis, CloseParenthesis, OpenBrace, CloseBrace, OpenBracket, CloseBracket, Semicolon, Comma, Arrow, Assign, Minus, Star, Exclamation, Tilde, Base, BinaryOperator, UnaryOperator, Negate, Not, Complement, Dereference, FieldOperator, ValueCall, PlaceCall, Constant, Word, name, keyword, mark, number, character, Sharing, private, readonly, racy, dynamic, locked, locked_through, Typing, Declaring, Front, parenthesis, of_value, of_place, Phrase, identifier, constant, unary, binary, Phrases, none, strength, Value, value, Doing, assign, invoke, Line, nothing, does, Sentence, line, jump, under, Opening, if_of, else_of, is_call, single, array, initially, Part, structure, global, Outer, body, items, inside, LinePlace, as_statement, as_first, DoingPlace, in_line, as_step, ValuePlace, of_doing, of_local, Asked, ExpressionPlace, condition, returning, testing, subject, valued, counting, Cont, part, beneath, right_of, fronted, indexing, arguments, NamePlace, on_top, field_of, parameter_of, local, TypePlace, naming, casting, sizing, ModePlace, before_base, at_level, Core, Want, Have, Called, Dotted, Spawning, Start, Done, Returning, ForOpen, ForTest, ForStep, Malloced, Valued, TypeWant, ModeFirst, StructWant, Typed, PathWant, PathNamed, PathThrough, Named, Fields, ArrayWant, InitialWant, InitialNegative, Top, Fixed, a_semicolon, a_bracket, State, At, or_else, to, Role, Calling, Indexing, Accessing, Operating, Ending, role, floor, settle, mallocs, want, open_call, lined, doing_end, local_line, local_end, value_end, subject_end, condition_end, return_end, test_end, leave, front_end, index_end, argument_end, end_at, counted, shift, have, dotted, called, spawning, typing_of, takes_modes, moded, mode_step, based, base_step, begin_type, struct_want, level_step, name_step, comma_step, close_type, open_type, typed, path_want, path_named, path_through, declaring_of, with_part, named_top, named_field, named_parameter, named_local, named, fields, array_want, initial_negative, initial_want, with_item, function_of, close_block, holds_items, line_start, start, is_else, done, returned, for_test, for_step, malloced, core_step, height, FewStars, FewFront, Few, LowDoing, LowInitial, line_nesting, nesting, LowPart, LowProgram, depth, around_it, crowded_line, crowded_doing, crowded_place, crowded, over_place, over_at, over_start, over_done, over_cast, over_core, test_down, subst, ap, leb-true, sharing_words, level_words, base_words, type_words, FitsType, operator_mark, access_mark, words, level, front_level, FitsFront, Fits, doing_words, line_words, written, is_declaring, is_declaration, takes_else, FitsValue, FitsDoing, FitsLine, FitsAs, parameters_words, part_words, program_words, FitAllDeclaring, FitsPart, IsProgram, fixed_words, may_declare, weak, floor_most, Jump, rules, by_if, by_while}, Completed.{LowOuter, Room, RoomToDeclare, LowDoingPlace, LowPlace, LowAround, LowName, LowType, LowMode, LowStart, LowCore, low_part_more, low_part_less, few_given_more, few_given_less, low_item_more, low_item_less, deepest_more, highest_more, few_more, few_less, around_most, depth_most}, Complete.never, CompleteProgram.MayStand, Placing.fields_fit, Sound.{so_far, Sound, outside, line_place_words, doing_place_words, around, type_place_words, mode_place_words, Outside, DoingAt, ValueAt, Around, TypeAt, ModeAt, BaseAt, program_more, is_program_more, fields_more, parameters_more, given_more, declaring_more, some_field, list_more, list_goes, all_more, items_more, fit_more, moded_sound, moded_says, based_sound, based_says, may, is_statement}}
 
 -- from one core to the next, within the limits
 pub record Moves (P : Type 0) (n : Core) : Type 0 where
@@ -338,7 +338,11 @@ value_goes (of_doing d u) r o w h a t =
 value_goes (of_local p d) r o w h a t = local_goes p d r o h.1 w h.0 a t
 
 condition_goes : (q : Asked) (x : Phrase) (o : Outer) → Fits x → Outside o → (t : Word) → From (Have x (part (condition q) o)) t (condition_end q x o t)
-condition_goes _ x o w a (mark CloseParenthesis) = ((w, a), λ y. refl, record {
+condition_goes by_if x o w a (mark CloseParenthesis) = ((w, a), λ y. refl, record {
+  up = λ l v. (l.2.0, ((omega (arith, l.0), l.1), omega (arith, l.2.0), l.2.1));
+  down = λ l. (omega (arith, l.1.0.0), l.1.0.1, (l.0, l.1.2));
+})
+condition_goes by_while x o w a (mark CloseParenthesis) = ((w, a), λ y. refl, record {
   up = λ l v. (l.2.0, ((omega (arith, l.0), l.1), omega (arith, l.2.0), l.2.1));
   down = λ l. (omega (arith, l.1.0.0), l.1.0.1, (l.0, l.1.2));
 })
