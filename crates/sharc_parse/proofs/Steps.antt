@@ -1,5 +1,5 @@
 -- The machine's steps within the limits, put together as the parser takes them.
-use Rattle.sharc_parse.proofs.{Imports.{◌≡◌, ℕ, ◌+◌, ◌≤◌, ◌<◌, List, [], ◌∷◌, ◌++◌, Some, None, refl, sym, ap, ◌∙◌, arith, true, false, cond, max, Result, Ok, Err, le-leb, lt-leb, nat_le, Keyword, OpenParenthesis, CloseParenthesis, OpenBrace, OpenBracket, CloseBracket, Semicolon, Comma, Dot, Arrow, Minus, Star, Ampersand, Exclamation, Tilde, BinaryOperator, UnaryOperator, Negate, Not, Complement, Dereference, FieldOperator, Constant, view_expr, view_arguments, view_arguments-push, Site, Expr, Span, Token, Identifier, ValueCall, PlaceCall, Word, name, keyword, mark, number, character, Front, Phrase, identifier, constant, call, field, unary, binary, Phrases, none, more, operator_mark, unary_mark, access_mark, constant_word, strength, front_level, valued, counting, Cont, part, beneath, right_of, fronted, indexing, arguments, Core, Want, Have, Called, Dotted, Fixed, an_open, a_close, a_semicolon, a_comma, a_brace, a_bracket, an_ampersand, a_sizeof, State, At, fixed_word, is_fixed, to, Role, Operating, Ending, role, grip_of, grip, with_last, floor, settle, mallocs, want, open_call, end_at, counted, shift, have, height, highest, depth, crowded, over_core, over, Limited, StuckAt, Over, next_within, reads_within, role_binary, role_unary, floor_most, size, sizes, rest_size, expression_at, arguments_at, site_in, span_at, name_at, front_size, ParsedExpr, ReadingFault, ParsedFront, Builds, IsPlaced, StandsFront, bare_front, front_tree, NotAt, IsAt, NoName, NoConstant, NoUnary, NoFront, NoCall, NoMalloc, NoAccess, front_word, after_front, bare, phrase_of, phrases_of, FrontWord, test_down, core_step, Value}, Complete.operator_step, Sound.is_statement}
+use Rattle.sharc_parse.proofs.{Imports.{◌≡◌, ℕ, ◌+◌, ◌≤◌, ◌<◌, List, [], ◌∷◌, ◌++◌, Some, None, refl, sym, ap, ◌∙◌, arith, true, false, cond, max, Result, Ok, Err, le-leb, lt-leb, nat_le, Keyword, OpenParenthesis, CloseParenthesis, OpenBrace, OpenBracket, CloseBracket, Semicolon, Comma, Dot, Arrow, Minus, Star, Ampersand, Exclamation, Tilde, BinaryOperator, UnaryOperator, Negate, Not, Complement, Dereference, FieldOperator, Constant, view_expr, view_arguments, view_arguments-push, Site, Expr, Span, Token, Identifier, ValueCall, PlaceCall, Word, name, keyword, mark, number, character, Front, Phrase, identifier, constant, call, field, unary, binary, Phrases, none, more, operator_mark, unary_mark, access_mark, constant_word, strength, front_level, valued, counting, Cont, part, beneath, right_of, fronted, indexing, arguments, Core, Want, Have, Called, Dotted, Fixed, an_open, a_close, a_semicolon, a_comma, a_brace, a_bracket, an_ampersand, a_sizeof, State, At, fixed_word, is_fixed, to, Role, Operating, Ending, role, grip_of, grip, with_last, floor, settle, mallocs, want, open_call, end_at, counted, shift, have, height, highest, depth, crowded, over_core, over, Limited, StuckAt, Over, next_within, reads_within, role_binary, role_unary, floor_most, size, sizes, rest_size, expression_at, arguments_at, site_in, span_at, name_at, front_size, ParsedExpr, ReadingFault, ParsedFront, Builds, IsPlaced, StandsFront, bare_front, front_tree, NotAt, IsAt, NoName, NoConstant, NoUnary, NoFront, NoCall, NoMalloc, NoAccess, front_word, after_front, bare, phrase_of, phrases_of, FrontWord, test_down, core_step}, Complete.operator_step, Sound.is_statement}
 use Rattle.sharc_tree.specs.Tree as tree
 use Rattle.sharc_parse.specs.declared.expr.Front.TheVariants as fronts
 

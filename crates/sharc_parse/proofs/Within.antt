@@ -1,5 +1,5 @@
 -- From one core to the next: what was read fits, has the words that were read, and stays within the limits.
-use Rattle.sharc_parse.proofs.{Imports.{◌≡◌, ℕ, ◌+◌, ◌≤◌, ◌<◌, List, [], ◌∷◌, length, Option, Some, None, refl, sym, ◌∙◌, arith, Bool, true, false, cond, leb-false, lt-leb, nat_le, Keyword, OpenParenthesis, CloseParenthesis, OpenBrace, CloseBrace, OpenBracket, CloseBracket, Semicolon, Comma, Arrow, Assign, Minus, Star, Exclamation, Tilde, Base, BinaryOperator, UnaryOperator, Negate, Not, Complement, Dereference, FieldOperator, ValueCall, PlaceCall, Constant, Word, name, keyword, mark, number, character, Sharing, private, readonly, racy, dynamic, locked, locked_through, Typing, Declaring, Front, parenthesis, of_value, of_place, Phrase, identifier, constant, unary, binary, Phrases, none, strength, Value, value, Doing, assign, invoke, Line, nothing, does, Sentence, line, jump, under, Opening, if_of, else_of, is_call, single, array, initially, Part, structure, global, Outer, body, items, inside, LinePlace, as_statement, as_first, DoingPlace, in_line, as_step, ValuePlace, of_doing, of_local, Asked, ExpressionPlace, condition, returning, testing, subject, valued, counting, Cont, part, beneath, right_of, fronted, indexing, arguments, NamePlace, on_top, field_of, parameter_of, local, TypePlace, naming, casting, sizing, ModePlace, before_base, at_level, Core, Want, Have, Called, Dotted, Spawning, Start, Done, Returning, ForOpen, ForTest, ForStep, Malloced, Valued, TypeWant, ModeFirst, StructWant, Typed, PathWant, PathNamed, PathThrough, Named, Fields, ArrayWant, InitialWant, InitialNegative, Top, Fixed, a_semicolon, a_bracket, State, At, or_else, to, Role, Calling, Indexing, Accessing, Operating, Ending, role, floor, settle, mallocs, want, open_call, lined, doing_end, local_line, local_end, value_end, subject_end, condition_end, return_end, test_end, leave, front_end, index_end, argument_end, end_at, counted, shift, have, dotted, called, spawning, typing_of, takes_modes, moded, mode_step, based, base_step, begin_type, struct_want, level_step, name_step, comma_step, close_type, open_type, typed, path_want, path_named, path_through, declaring_of, with_part, named_top, named_field, named_parameter, named_local, named, fields, array_want, initial_negative, initial_want, with_item, function_of, close_block, holds_items, line_start, start, is_else, done, returned, for_test, for_step, malloced, core_step, height, FewStars, FewFront, Few, LowDoing, LowInitial, line_nesting, nesting, LowPart, LowProgram, depth, around_it, crowded_line, crowded_doing, crowded_place, crowded, over_place, over_at, over_start, over_done, over_cast, over_core, test_down, subst, ap, leb-true, sharing_words, level_words, base_words, type_words, FitsType, operator_mark, access_mark, words, level, front_level, FitsFront, Fits, doing_words, line_words, written, is_declaring, is_declaration, takes_else, FitsValue, FitsDoing, FitsLine, FitsAs, parameters_words, part_words, program_words, FitAllDeclaring, FitsPart, IsProgram, fixed_words, may_declare, weak, floor_most, Jump, rules, by_if, by_while}, Completed.{LowOuter, Room, RoomToDeclare, LowDoingPlace, LowPlace, LowAround, LowName, LowType, LowMode, LowStart, LowCore, low_part_more, low_part_less, few_given_more, few_given_less, low_item_more, low_item_less, deepest_more, highest_more, few_more, few_less, around_most, depth_most}, Complete.never, CompleteProgram.MayStand, Placing.fields_fit, Sound.{so_far, Sound, outside, line_place_words, doing_place_words, around, type_place_words, mode_place_words, Outside, DoingAt, ValueAt, Around, TypeAt, ModeAt, BaseAt, program_more, is_program_more, fields_more, parameters_more, given_more, declaring_more, some_field, list_more, list_goes, all_more, items_more, fit_more, moded_sound, moded_says, based_sound, based_says, may, is_statement}}
+use Rattle.sharc_parse.proofs.{Imports.{◌≡◌, ℕ, ◌+◌, ◌≤◌, ◌<◌, List, [], ◌∷◌, length, Option, Some, None, refl, sym, ◌∙◌, arith, Bool, true, false, cond, leb-false, lt-leb, nat_le, Keyword, OpenParenthesis, CloseParenthesis, OpenBrace, CloseBrace, OpenBracket, CloseBracket, Semicolon, Comma, Arrow, Assign, Minus, Star, Exclamation, Tilde, Base, BinaryOperator, UnaryOperator, Negate, Not, Complement, Dereference, ValueCall, PlaceCall, Constant, Word, name, keyword, mark, number, character, Sharing, private, readonly, racy, dynamic, locked, locked_through, Typing, Declaring, Front, parenthesis, of_value, of_place, Phrase, identifier, constant, unary, binary, none, strength, Value, value, Doing, assign, invoke, Line, nothing, does, Sentence, line, jump, under, Opening, if_of, else_of, is_call, single, array, initially, Part, structure, global, Outer, body, items, inside, LinePlace, as_statement, as_first, DoingPlace, in_line, as_step, ValuePlace, of_doing, of_local, ExpressionPlace, condition, returning, testing, subject, valued, counting, Cont, part, beneath, right_of, fronted, indexing, arguments, NamePlace, on_top, field_of, parameter_of, local, TypePlace, naming, casting, sizing, ModePlace, before_base, at_level, Core, Want, Have, Called, Dotted, Spawning, Start, Done, Returning, ForOpen, ForTest, ForStep, Malloced, Valued, TypeWant, ModeFirst, StructWant, Typed, PathWant, PathNamed, PathThrough, Named, Fields, ArrayWant, InitialWant, InitialNegative, Top, Fixed, a_semicolon, a_bracket, State, At, or_else, to, Role, Calling, Indexing, Accessing, Operating, Ending, role, floor, settle, mallocs, want, open_call, lined, doing_end, local_line, local_end, value_end, subject_end, leave, end_at, counted, shift, have, typing_of, takes_modes, moded, mode_step, based, base_step, begin_type, level_step, typed, declaring_of, with_part, named, with_item, function_of, close_block, holds_items, line_start, start, is_else, done, core_step, height, FewStars, FewFront, Few, LowDoing, LowInitial, LowPart, LowProgram, depth, around_it, crowded, over_at, over_core, test_down, subst, ap, leb-true, sharing_words, level_words, base_words, type_words, FitsType, operator_mark, access_mark, words, level, Fits, doing_words, line_words, written, is_declaring, is_declaration, takes_else, FitsValue, FitsDoing, FitsLine, FitsAs, parameters_words, part_words, program_words, FitsPart, IsProgram, fixed_words, may_declare, weak, floor_most, Jump, rules, by_if, by_while}, Completed.{LowOuter, Room, RoomToDeclare, LowDoingPlace, LowAround, LowName, LowType, LowMode, LowStart, LowCore, low_part_more, low_part_less, few_given_more, few_given_less, low_item_more, low_item_less, deepest_more, highest_more, few_more, few_less, around_most, depth_most}, Complete.never, CompleteProgram.MayStand, Placing.fields_fit, Sound.{so_far, Sound, outside, line_place_words, doing_place_words, around, type_place_words, mode_place_words, Outside, DoingAt, ValueAt, Around, TypeAt, ModeAt, BaseAt, program_more, is_program_more, fields_more, parameters_more, given_more, declaring_more, some_field, list_more, list_goes, all_more, items_more, fit_more, moded_sound, moded_says, based_sound, based_says, may, is_statement}}
 
 -- from one core to the next, within the limits
 pub record Moves (P : Type 0) (n : Core) : Type 0 where
@@ -47,55 +47,23 @@ both_off false b e h = h
 
 -- what is within the limits passes the test
 
-not_crowded_line : (p : LinePlace) (o : Outer) → Room p o → crowded_line p o ≡ false
-not_crowded_line as_statement o r = test_down (around_it o) r
-not_crowded_line as_first o r = refl
-
-not_crowded_doing : (d : DoingPlace) (o : Outer) → LowDoingPlace d o → crowded_doing d o ≡ false
-not_crowded_doing (in_line p) o r = not_crowded_line p o r
-not_crowded_doing (as_step l e) o r = refl
-
-not_crowded_place : (p : ExpressionPlace) (o : Outer) → LowPlace p o → crowded_place p o ≡ false
-not_crowded_place (subject d) o r = not_crowded_doing d o r
-not_crowded_place _ o r = refl
-
 pub not_crowded : (k : Cont) → LowAround k → crowded k ≡ false
-not_crowded (part p o) l = not_crowded_place p o l.0
+not_crowded (part (subject (in_line as_statement)) o) l = test_down (around_it o) l.0
+not_crowded (part p o) l = refl
 not_crowded (beneath u k) l = not_crowded k l.1
 not_crowded (right_of a o k) l = not_crowded k l.2
 not_crowded (fronted f k) l = not_crowded k l.2
 not_crowded (indexing a k) l = not_crowded k l.2
 not_crowded (arguments f all k) l = not_crowded k l.2
 
-not_over_place : (p : ExpressionPlace) (o : Outer) → LowPlace p o → over_place p o ≡ false
-not_over_place (condition q) o r = lt-leb 63 (around_it o) r
-not_over_place _ o r = refl
-
 not_over_at : (k : Cont) → LowAround k → over_at k ≡ false
-not_over_at (part p o) l = not_over_place p o l.0
+not_over_at (part (condition q) o) l = lt-leb 63 (around_it o) l.0
+not_over_at (part p o) l = refl
 not_over_at (beneath u k) l = test_down (depth k) l.0
 not_over_at (right_of a o k) l = test_down (depth k + height a) l.0
 not_over_at (fronted f k) l = test_down (depth k) l.0
 not_over_at (indexing a k) l = test_down (depth k + height a) l.0
 not_over_at (arguments f all k) l = test_down (depth k) (omega (arith, l.0))
-
-not_over_start : (o : Outer) → LowStart o → LowOuter o → over_start o ≡ false
-not_over_start (inside w o) s l = lt-leb 63 (around_it o) s
-not_over_start (items all o) s l = test_down (around_it o) (omega (arith, l.1))
-not_over_start (body all r f given b) s l = refl
-
-not_over_line : (x : Line) (o : Outer) → around_it o + line_nesting x ≤ 64 → over_done (line x) o ≡ false
-not_over_line nothing o l = test_down (around_it o) (omega (arith, l))
-not_over_line _ o l = refl
-
-not_over_done : (s : Sentence) (o : Outer) → around_it o + nesting s ≤ 64 → over_done s o ≡ false
-not_over_done (line x) o l = not_over_line x o l
-not_over_done (jump j) o l = test_down (around_it o) (omega (arith, l))
-not_over_done _ o l = refl
-
-not_over_cast : (p : TypePlace) → LowType p → over_cast p ≡ false
-not_over_cast (casting k) l = both_off (crowded k) (nat_le 64 (depth k)) (not_crowded k l.1) (test_down (depth k) l.0)
-not_over_cast _ l = refl
 
 pub not_over : (c : Core) → LowCore c → over_core c ≡ false
 not_over (Want k) l = both_off (crowded k) (over_at k) (not_crowded k l) (not_over_at k l)
@@ -103,11 +71,13 @@ not_over (Have x k) l = not_crowded k l.2
 not_over (Called f k) l = test_down (depth k) l.0
 not_over (Dotted x a k) l = test_down (depth k + height x) l.0
 not_over (Spawning k) l = both_off (crowded k) (nat_le 64 (depth k)) (not_crowded k l.1) (test_down (depth k) l.0)
-not_over (Start o) l = not_over_start o l.0 l.1
-not_over (Done s o) l = not_over_done s o l.1
+not_over (Start (inside w o)) l = lt-leb 63 (around_it o) l.0
+not_over (Start (items all o)) l = test_down (around_it o) (omega (arith, l.1.1))
+not_over (Done (line nothing) o) l = test_down (around_it o) (omega (arith, l.1))
+not_over (Done (jump j) o) l = test_down (around_it o) (omega (arith, l.1))
 not_over (Returning o) l = test_down (around_it o) l.0
 not_over (ForOpen o) l = lt-leb 63 (around_it o) l.0
-not_over (TypeWant p) l = not_over_cast p l
+not_over (TypeWant (casting k)) l = both_off (crowded k) (nat_le 64 (depth k)) (not_crowded k l.1) (test_down (depth k) l.0)
 not_over (Typed p first b m below) l = lt-leb 9 (length below) (omega (arith, l.0))
 not_over _ l = refl
 -- Types.
@@ -146,52 +116,23 @@ begin_goes p a t =
     (cond_goes (type_place_words p) t (LowType p) (takes_modes p) (mode_step (before_base p) t) (λ e. mode_goes (before_base p) (a, e) t))
     (base_goes p None a tt t)
 
-struct_goes : (p : TypePlace) (m : Option Sharing) → TypeAt p → BaseAt p m → (t : Word) → From (StructWant p m) t (struct_want p m t)
-struct_goes p m a h (name n) = based_goes p m (Base.Struct n) a h
-struct_goes p m a h _ = tt
-
 level_goes : (p : TypePlace) (first : Bool) (b : Base) (m : Option Sharing) (below : List (Option Sharing)) → Sound (Typed p first b m below) → (t : Word) → From (Typed p first b m below) t (level_step p first b m below t)
 level_goes p first b None below a t =
     cond_goes (so_far (Typed p first b None below)) t (LowCore (Typed p first b None below)) (takes_modes p) (mode_step (at_level p first b below) t) (λ e. mode_goes (at_level p first b below) (a.0, e, a.1) t)
 level_goes p first b (Some s) below a t = tt
 
-name_goes : (p : TypePlace) (first : Bool) (b : Base) (m : Option Sharing) (below : List (Option Sharing)) → Sound (Typed p first b m below) → (n : List ℕ) → From (Typed p first b m below) (name n) (name_step p (typing_of first b m below) n)
-name_goes (naming p) first b m below a n = ((a.0, a.1), λ y. refl, alike ((length below ≤ 8) × LowName p) (Named p (typing_of first b m below) n) (λ l. l) (λ l. l))
-name_goes _ first b m below a n = tt
-
-comma_goes : (p : TypePlace) (first : Bool) (b : Base) (m : Option Sharing) (below : List (Option Sharing)) → Sound (Typed p first b m below) → From (Typed p first b m below) (mark Comma) (comma_step p (typing_of first b m below))
-comma_goes (casting k) first b m below a = ((a.1, a.0), λ y. refl, record { up = λ l v. (l.1.0, l.0, l.1.1); down = λ l. (l.1, (l.0, l.2)) })
-comma_goes _ first b m below a = tt
-
-close_goes : (p : TypePlace) (first : Bool) (b : Base) (m : Option Sharing) (below : List (Option Sharing)) → Sound (Typed p first b m below) → From (Typed p first b m below) (mark CloseParenthesis) (close_type p first b m below)
-close_goes (sizing v n o) first b m below a = ((a.0.0, (a.0.1, a.1, a.2 refl), a.0.2), λ y. refl, record { up = λ l w. (l.1.0, (l.1.1, l.0), l.1.2); down = λ l. (l.1.1, (l.0, l.1.0, l.2)) })
-close_goes (naming (parameter_of all r f [])) false Base.Void None [] a = ((a.0.0, a.0.1, tt, tt), λ y. refl, record { up = λ l v. (tt, (l.1.0, l.1.1, tt, tt, omega arith)); down = λ l. (omega arith, (l.1.0, l.1.1, tt)) })
-close_goes _ _ _ _ _ a = tt
-
-open_goes : (p : TypePlace) (first : Bool) (b : Base) (m : Option Sharing) (below : List (Option Sharing)) → Sound (Typed p first b m below) → From (Typed p first b m below) (mark OpenBrace) (open_type p first b m below)
-open_goes (naming (on_top all)) false (Base.Struct n) None [] a = ((a.0, tt), λ y. refl, record { up = λ l v. (l.1, tt); down = λ l. (omega arith, l.0) })
-open_goes _ _ _ _ _ a = tt
-
 typed_goes : (p : TypePlace) (first : Bool) (b : Base) (m : Option Sharing) (below : List (Option Sharing)) → Sound (Typed p first b m below) → (t : Word) → From (Typed p first b m below) t (typed p first b m below t)
 typed_goes p first b m below a (mark Star) = ((a.0, a.1, a.2), λ y. refl, record { up = λ l v. (omega (arith, leb-false 9 (length (m ∷ below)) v), l.1); down = λ l. (omega (arith, l.0), l.1) })
-typed_goes p first b m below a (name n) = name_goes p first b m below a n
-typed_goes p first b m below a (mark Comma) = comma_goes p first b m below a
-typed_goes p first b m below a (mark CloseParenthesis) = close_goes p first b m below a
-typed_goes p first b m below a (mark OpenBrace) = open_goes p first b m below a
+typed_goes (naming p) first b m below a (name n) = ((a.0, a.1), λ y. refl, alike ((length below ≤ 8) × LowName p) (Named p (typing_of first b m below) n) (λ l. l) (λ l. l))
+typed_goes (casting k) first b m below a (mark Comma) = ((a.1, a.0), λ y. refl, record { up = λ l v. (l.1.0, l.0, l.1.1); down = λ l. (l.1, (l.0, l.2)) })
+typed_goes (sizing v n o) first b m below a (mark CloseParenthesis) = ((a.0.0, (a.0.1, a.1, a.2 refl), a.0.2), λ y. refl, record { up = λ l w. (l.1.0, (l.1.1, l.0), l.1.2); down = λ l. (l.1.1, (l.0, l.1.0, l.2)) })
+typed_goes (naming (parameter_of all r f [])) false Base.Void None [] a (mark CloseParenthesis) = ((a.0.0, a.0.1, tt, tt), λ y. refl, record { up = λ l v. (tt, (l.1.0, l.1.1, tt, tt, omega arith)); down = λ l. (omega arith, (l.1.0, l.1.1, tt)) })
+typed_goes (naming (on_top all)) false (Base.Struct n) None [] a (mark OpenBrace) = ((a.0, tt), λ y. refl, record { up = λ l v. (l.1, tt); down = λ l. (omega arith, l.0) })
+typed_goes _ _ _ _ _ a (name n) = tt
+typed_goes _ _ _ _ _ a (mark Comma) = tt
+typed_goes _ _ _ _ _ a (mark CloseParenthesis) = tt
+typed_goes _ _ _ _ _ a (mark OpenBrace) = tt
 typed_goes p first b m below a t = level_goes p first b m below a t
-
-path_want_goes : (p : ModePlace) → ModeAt p → (t : Word) → From (PathWant p) t (path_want p t)
-path_want_goes p a (name n) = (a, λ y. refl, alike (LowMode p) (PathNamed p n) (λ l. l) (λ l. l))
-path_want_goes p a _ = tt
-
-path_named_goes : (p : ModePlace) (n : List ℕ) → ModeAt p → (t : Word) → From (PathNamed p n) t (path_named p n t)
-path_named_goes p n a (mark CloseParenthesis) = moded_goes p (locked n) a
-path_named_goes p n a (mark Arrow) = (a, λ y. refl, alike (LowMode p) (PathThrough p n) (λ l. l) (λ l. l))
-path_named_goes p n a _ = tt
-
-path_through_goes : (p : ModePlace) (x : List ℕ) → ModeAt p → (t : Word) → From (PathThrough p x) t (path_through p x t)
-path_through_goes p x a (name m) = moded_goes p (locked_through x m) a
-path_through_goes p x a _ = tt
 
 -- Expressions.
 
@@ -248,18 +189,6 @@ want_room : (k : Cont) (t : Word) → TestsRoom k (want k t)
 want_room k (keyword Keyword.Malloc) = mallocs_room k
 want_room k (mark Minus) = search rules
 want_room k _ = search rules
-
-spawning_goes : (k : Cont) → Around k → (t : Word) → From (Spawning k) t (spawning k t)
-spawning_goes k a (name f) = ((tt, a), λ y. refl, record { up = λ l v. (l.0, tt, l.1); down = λ l. (l.0, l.2) })
-spawning_goes k a _ = tt
-
-dotted_goes : (x : Phrase) (w : FieldOperator) (k : Cont) → Sound (Dotted x w k) → (t : Word) → From (Dotted x w k) t (dotted x w k t)
-dotted_goes x w k a (name n) = ((omega arith, (a.0, a.1), a.2), λ y. refl, record { up = λ l v. (omega (arith, l.0), l.1, l.2); down = λ l. (omega (arith, l.0), l.1, l.2) })
-dotted_goes x w k a _ = tt
-
-called_goes : (f : List ℕ) (k : Cont) → Around k → (t : Word) → From (Called f k) t (called f k t)
-called_goes f k a (mark CloseParenthesis) = ((omega arith, tt, a), λ y. refl, record { up = λ l v. (omega (arith, l.0), tt, l.1); down = λ l. (omega (arith, l.0), l.2) })
-called_goes f k a t = from_core (Want (arguments f none k)) (Called f k) t (want (arguments f none k) t) (λ y. refl) (λ l. (omega (arith, l.0), tt, l.1)) (λ l. (omega (arith, l.0), l.2)) (want_goes (arguments f none k) (tt, a) t)
 
 -- operators that take their operands, and change nothing within the limits
 pub record Settled (l : ℕ) (x : Phrase) (k : Cont) (s : Phrase × Cont) : Type 0 where
@@ -337,31 +266,6 @@ value_goes (of_doing d u) r o w h a t =
     (λ l. ((l.0.1, l.1), l.0.0, l.2)) (λ l. ((l.1, l.0.0), l.0.1, l.2)) (doing_goes d (assign u r) o (h.1, h.2, w) h.0 a t)
 value_goes (of_local p d) r o w h a t = local_goes p d r o h.1 w h.0 a t
 
-condition_goes : (q : Asked) (x : Phrase) (o : Outer) → Fits x → Outside o → (t : Word) → From (Have x (part (condition q) o)) t (condition_end q x o t)
-condition_goes by_if x o w a (mark CloseParenthesis) = ((w, a), λ y. refl, record {
-  up = λ l v. (l.2.0, ((omega (arith, l.0), l.1), omega (arith, l.2.0), l.2.1));
-  down = λ l. (omega (arith, l.1.0.0), l.1.0.1, (l.0, l.1.2));
-})
-condition_goes by_while x o w a (mark CloseParenthesis) = ((w, a), λ y. refl, record {
-  up = λ l v. (l.2.0, ((omega (arith, l.0), l.1), omega (arith, l.2.0), l.2.1));
-  down = λ l. (omega (arith, l.1.0.0), l.1.0.1, (l.0, l.1.2));
-})
-condition_goes _ x o w a _ = tt
-
-return_goes : (x : Phrase) (o : Outer) → Fits x → Outside o → (t : Word) → From (Have x (part returning o)) t (return_end x o t)
-return_goes x o w a (mark Semicolon) = ((may o, refl, w, a), λ y. refl, record {
-  up = λ l v. ((omega (arith, l.0), l.1), omega (arith, l.2.0), l.2.1);
-  down = λ l. (omega (arith, l.0.0), l.0.1, (omega (arith, l.1), l.2));
-})
-return_goes x o w a _ = tt
-
-test_goes : (l : Line) (x : Phrase) (o : Outer) → Fits x → FitsLine l → Outside o → (t : Word) → From (Have x (part (testing l) o)) t (test_end l x o t)
-test_goes l x o w h a (mark Semicolon) = ((h, w, a), λ y. refl, record {
-  up = λ h v. (h.2.0.0, (omega (arith, h.0), h.1), h.2.0.1, h.2.1);
-  down = λ h. (omega (arith, h.1.0), h.1.1, ((h.0, h.2), h.3));
-})
-test_goes l x o w h a _ = tt
-
 invoke_goes : (b : Bool) (d : DoingPlace) (x : Phrase) (o : Outer) → is_call x ≡ b → Fits x → DoingAt d → Outside o → (t : Word) → From (Have x (part (subject d) o)) t (cond b (doing_end d (invoke x) o t) None)
 invoke_goes true d x o e w h a t =
     goes_from (λ y. outside o (doing_place_words d (doing_words (invoke x) y))) (so_far (Have x (part (subject d) o))) (LowDoing (invoke x) × LowDoingPlace d o × LowOuter o) (LowCore (Have x (part (subject d) o))) t (doing_end d (invoke x) o t) (λ y. refl)
@@ -376,46 +280,47 @@ subject_goes d x o w f h a (mark Assign) = (((h, f, w), a), λ y. refl, record {
 subject_goes d x o w f h a t = invoke_goes (is_call x) d x o refl w h a t
 
 leave_goes : (p : ExpressionPlace) (x : Phrase) (o : Outer) → Fits x → floor (part p o) ≤ level x → Around (part p o) → (t : Word) → From (Have x (part p o)) t (leave p x o t)
-leave_goes (condition q) x o w f a t = condition_goes q x o w a.1 t
-leave_goes returning x o w f a t = return_goes x o w a.1 t
-leave_goes (testing l) x o w f a t = test_goes l x o w a.0 a.1 t
+leave_goes (condition by_if) x o w f a (mark CloseParenthesis) = ((w, a.1), λ y. refl, record {
+  up = λ l v. (l.2.0, ((omega (arith, l.0), l.1), omega (arith, l.2.0), l.2.1));
+  down = λ l. (omega (arith, l.1.0.0), l.1.0.1, (l.0, l.1.2));
+})
+leave_goes (condition by_while) x o w f a (mark CloseParenthesis) = ((w, a.1), λ y. refl, record {
+  up = λ l v. (l.2.0, ((omega (arith, l.0), l.1), omega (arith, l.2.0), l.2.1));
+  down = λ l. (omega (arith, l.1.0.0), l.1.0.1, (l.0, l.1.2));
+})
+leave_goes returning x o w f a (mark Semicolon) = ((may o, refl, w, a.1), λ y. refl, record {
+  up = λ l v. ((omega (arith, l.0), l.1), omega (arith, l.2.0), l.2.1);
+  down = λ l. (omega (arith, l.0.0), l.0.1, (omega (arith, l.1), l.2));
+})
+leave_goes (testing l) x o w f a (mark Semicolon) = ((a.0, w, a.1), λ y. refl, record {
+  up = λ h v. (h.2.0.0, (omega (arith, h.0), h.1), h.2.0.1, h.2.1);
+  down = λ h. (omega (arith, h.1.0), h.1.1, ((h.0, h.2), h.3));
+})
 leave_goes (subject d) x o w f a t = subject_goes d x o w f a.0 a.1 t
 leave_goes (valued v) x o w f a t =
     from_core (Valued v (value x) o) (Have x (part (valued v) o)) t (value_end v (value x) o t) (λ y. refl)
     (λ l. (l.2.0, (omega (arith, l.0), l.1), l.2.1)) (λ l. (omega (arith, l.1.0), l.1.1, (l.0, l.2))) (value_goes v (value x) o w a.0 a.1 t)
-leave_goes (counting v) x o w f a t = tt
+leave_goes _ x o w f a _ = tt
 
-front_goes : (h : Front) (x : Phrase) (k : Cont) → Fits x → front_level h ≤ level x → FitsFront h → Around k → (t : Word) → From (Have x (fronted h k)) t (front_end h x k t)
-front_goes h x k w f v a (mark CloseParenthesis) = ((omega arith, (v, f, w), a), λ y. refl, record {
+end_goes : (x : Phrase) (k : Cont) → Fits x → floor k ≤ level x → Around k → (t : Word) → From (Have x k) t (end_at x k t)
+end_goes x (fronted h k) w f a (mark CloseParenthesis) = ((omega arith, (a.0, f, w), a.1), λ y. refl, record {
   up = λ l v. (omega (arith, l.0), (l.2.1, l.1), l.2.2);
   down = λ l. (omega (arith, l.0), l.1.1, (omega (arith, l.0), l.1.0, l.2));
 })
-front_goes h x k w f v a _ = tt
-
-index_goes : (b x : Phrase) (k : Cont) → Fits x → Around (indexing b k) → (t : Word) → From (Have x (indexing b k)) t (index_end b x k t)
-index_goes b x k w a (mark CloseBracket) = ((omega arith, (a.0, a.1, w), a.2), λ y. refl, record {
+end_goes x (indexing b k) w f a (mark CloseBracket) = ((omega arith, (a.0, a.1, w), a.2), λ y. refl, record {
   up = λ l v. (omega (arith, l.0, l.2.0), (l.2.1, l.1), l.2.2);
   down = λ l. (omega (arith, l.0), l.1.1, (omega (arith, l.0), l.1.0, l.2));
 })
-index_goes b x k w a _ = tt
-
-argument_goes : (g : List ℕ) (all : Phrases) (x : Phrase) (k : Cont) → Fits x → Around (arguments g all k) → (t : Word) → From (Have x (arguments g all k)) t (argument_end g all x k t)
-argument_goes g all x k w a (mark Comma) = ((all_more all x a.0 w, a.1), λ y. ap (λ z. around k (name g ∷ (mark OpenParenthesis ∷ z))) (list_goes all x y), record {
+end_goes x (arguments g all k) w f a (mark Comma) = ((all_more all x a.0 w, a.1), λ y. ap (λ z. around k (name g ∷ (mark OpenParenthesis ∷ z))) (list_goes all x y), record {
   up = λ l v. (omega (arith, l.0, l.2.0, highest_more all x), few_more all x l.2.1 l.1, l.2.2);
   down = λ l. let w = few_less all x l.1 in (omega (arith, l.0, highest_more all x), w.1, (omega (arith, l.0, highest_more all x), w.0, l.2));
 })
-argument_goes g all x k w a (mark CloseParenthesis) = ((omega arith, all_more all x a.0 w, a.1), λ y. ap (λ z. around k (name g ∷ (mark OpenParenthesis ∷ z))) (list_more all x (mark CloseParenthesis ∷ y)), record {
+end_goes x (arguments g all k) w f a (mark CloseParenthesis) = ((omega arith, all_more all x a.0 w, a.1), λ y. ap (λ z. around k (name g ∷ (mark OpenParenthesis ∷ z))) (list_more all x (mark CloseParenthesis ∷ y)), record {
   up = λ l v. (omega (arith, l.0, l.2.0, highest_more all x), few_more all x l.2.1 l.1, l.2.2);
   down = λ l. let w = few_less all x l.1 in (omega (arith, l.0, highest_more all x), w.1, (omega (arith, l.0, highest_more all x), w.0, l.2));
 })
-argument_goes g all x k w a _ = tt
-
-end_goes : (x : Phrase) (k : Cont) → Fits x → floor k ≤ level x → Around k → (t : Word) → From (Have x k) t (end_at x k t)
-end_goes x (fronted h k) w f a t = front_goes h x k w f a.0 a.1 t
-end_goes x (indexing b k) w f a t = index_goes b x k w a t
-end_goes x (arguments g all k) w f a t = argument_goes g all x k w a t
 end_goes x (part p o) w f a t = leave_goes p x o w f a t
-end_goes x _ w f a t = tt
+end_goes x _ w f a _ = tt
 
 ending : (x : Phrase) (k : Cont) → Sound (Have x k) → (t : Word) → From (Have x k) t (have Ending x k t)
 ending x k a t =
@@ -503,13 +408,6 @@ statement_goes o a t =
     (declaration_goes o a t)
     (expression_goes o t (want (part (subject (in_line as_statement)) o) t) (want_room (part (subject (in_line as_statement)) o) t) (want_goes (part (subject (in_line as_statement)) o) (tt, a) t))
 
-head_goes : (o : Outer) → Outside o → (t : Word) → From (ForOpen o) t (line_start as_first o t)
-head_goes o a (mark Semicolon) = ((tt, a), λ y. refl, record { up = λ l v. (tt, l.0, l.1); down = λ l. (l.1, l.2) })
-head_goes o a t =
-    or_else_goes (so_far (ForOpen o)) t (LowCore (ForOpen o)) (begin_type (naming (local as_first o)) t) (want (part (subject (in_line as_first)) o) t)
-    (begin_goes (naming (local as_first o)) (refl, a) t)
-    (want_goes (part (subject (in_line as_first)) o) (tt, a) t)
-
 -- a statement that another is under begins
 opens_moves : (o : Outer) → Moves (LowCore (Start o)) (ForOpen o)
 opens_moves o = record { up = λ l v. (leb-false 63 (around_it o) v, l.1); down = λ l. (start_room o (omega (arith, l.0)), l.1) }
@@ -566,112 +464,85 @@ done_goes s (inside (if_of e) o) m w a t h =
     then_goes (is_else t) e s o t (done (under (if_of e) s) o t) refl h (is_statement (is_declaration s) m) a.0 w a.1 (λ n. done_goes (under (if_of e) s) o (may o) (is_statement (is_declaration s) m, a.0, w) a.1 t (λ _. n))
 done_goes s (inside v o) m w a t h = under_goes v s o t (done (under v s) o t) (done_goes (under v s) o (may o) (is_statement (is_declaration s) m, a.0, w) a.1 t h)
 
-returned_goes : (o : Outer) → Outside o → (t : Word) → From (Returning o) t (returned o t)
-returned_goes o a (mark Semicolon) = ((may o, refl, tt, a), λ y. refl, record { up = λ l v. (tt, omega (arith, l.0), l.1); down = λ l. (omega (arith, l.1), l.2) })
-returned_goes o a t = want_goes (part returning o) (tt, a) t
-
-for_test_goes : (l : Line) (o : Outer) → Sound (ForTest l o) → (t : Word) → From (ForTest l o) t (for_test l o t)
-for_test_goes l o a (mark Semicolon) = ((a.0, tt, a.1), λ y. refl, record { up = λ h v. (h.0, tt, h.1, h.2); down = λ h. (h.0, h.2, h.3) })
-for_test_goes l o a t = from_core (Want (part (testing l) o)) (ForTest l o) t (want (part (testing l) o) t) (λ y. refl) (λ h. ((h.0, h.1), h.2)) (λ h. (h.0.0, h.0.1, h.1)) (want_goes (part (testing l) o) a t)
-
-for_step_goes : (l : Line) (e : Option Phrase) (o : Outer) → Sound (ForStep l e o) → (t : Word) → From (ForStep l e o) t (for_step l e o t)
-for_step_goes l e o a (mark CloseParenthesis) = (((a.0, a.1, tt), a.2), λ y. refl, record {
-  up = λ h v. (h.2, ((h.0, h.1, tt), omega (arith, h.2), h.3));
-  down = λ h. (h.1.0.0, h.1.0.1, h.0, h.1.2);
-})
-for_step_goes l e o a t = from_core (Want (part (subject (as_step l e)) o)) (ForStep l e o) t (want (part (subject (as_step l e)) o) t) (λ y. refl) (λ h. ((h.0, h.1, h.2), h.3)) (λ h. (h.0.0, h.0.1, h.0.2, h.1)) (want_goes (part (subject (as_step l e)) o) ((a.0, a.1), a.2) t)
-
-malloced_goes : (v : ValuePlace) (o : Outer) → Sound (Malloced v o) → (t : Word) → From (Malloced v o) t (malloced v o t)
-malloced_goes v o a (keyword Keyword.Sizeof) = ((a.0, tt, a.1), λ y. refl, record { up = λ l w. (l.0, tt, l.1); down = λ l. (l.0, l.2) })
-malloced_goes v o a t = want_goes (part (counting v) o) a t
-
 -- Programs.
 
 top_goes : (c : Core) (t : Word) (all : List Part) (p : Part) → IsProgram all → FitsPart p → (fs : List Fixed) → ((y : List Word) → program_words all (part_words p y) ≡ so_far c (t ∷ fixed_words fs y)) → (LowCore c → LowProgram all × LowPart p) → (LowProgram all × LowPart p → LowCore c) → From c t (Some (At fs (Top (with_part all p))))
 top_goes c t all p a w fs e f g = (is_program_more all p a w, λ y. program_more all p y ∙ e y, record { up = λ l v. let r = f l in low_part_more all p r.0 r.1; down = λ l. g (low_part_less all p l) })
 
-named_top_goes : (all : List Part) (ty : Typing) (n : List ℕ) → IsProgram all → FitsType ty → (t : Word) → From (Named (on_top all) ty n) t (named_top all ty n t)
-named_top_goes all ty n a w (mark Semicolon) = top_goes (Named (on_top all) ty n) (mark Semicolon) all (global (declaring_of ty n) single) a (w, tt) [] (λ y. refl) (λ l. (l.1, l.0)) (λ l. (l.1, l.0))
-named_top_goes all ty n a w (mark OpenBracket) = ((a, w), λ y. refl, record { up = λ l v. (l.1, l.0); down = λ l. (l.1, l.0) })
-named_top_goes all ty n a w (mark Assign) = ((a, w), λ y. refl, record { up = λ l v. (l.1, l.0); down = λ l. (l.1, l.0) })
-named_top_goes all ty n a w (mark OpenParenthesis) = ((a, w, tt), λ y. refl, record { up = λ l v. (l.1, l.0, tt); down = λ l. (l.1, l.0) })
-named_top_goes all ty n a w _ = tt
-
-named_field_goes : (all : List Part) (s : List ℕ) (before : List Declaring) (d : Declaring) → IsProgram all → FitAllDeclaring before → FitsType d.typing → (t : Word) → From (Named (field_of all s before) d.typing d.named) t (named_field all s before d t)
-named_field_goes all s before d a w v (mark Semicolon) = ((a, some_field before d w v), λ y. ap (λ z. program_words all (keyword Keyword.Struct ∷ (name s ∷ (mark OpenBrace ∷ z)))) (fields_more before d y), record {
-  up = λ l v. (l.1.0, few_given_more before d l.1.1 l.0);
-  down = λ l. let r = few_given_less before d l.1 in (r.1, (l.0, r.0));
-})
-named_field_goes all s before d a w v _ = tt
-
-named_parameter_goes : (all : List Part) (r : Typing) (f : List ℕ) (before : List Declaring) (d : Declaring) → IsProgram all → FitsType r → FitAllDeclaring before → FitsType d.typing → (t : Word) → From (Named (parameter_of all r f before) d.typing d.named) t (named_parameter all r f before d t)
-named_parameter_goes all r f before d a w v u (mark Comma) = ((a, w, declaring_more before d v u), λ y. ap (λ z. program_words all (type_words r (name f ∷ (mark OpenParenthesis ∷ z)))) (given_more before d y), record {
-  up = λ l v. (l.1.0, l.1.1, few_given_more before d l.1.2 l.0);
-  down = λ l. let w = few_given_less before d l.2 in (w.1, (l.0, l.1, w.0));
-})
-named_parameter_goes all r f before d a w v u (mark CloseParenthesis) = ((a, w, declaring_more before d v u, tt), λ y. ap (λ z. program_words all (type_words r (name f ∷ (mark OpenParenthesis ∷ z)))) (parameters_more before d (mark CloseParenthesis ∷ (mark OpenBrace ∷ y))), record {
-  up = λ l v. (tt, (l.1.0, l.1.1, few_given_more before d l.1.2 l.0, tt, omega arith));
-  down = λ l. let w = few_given_less before d l.1.2 in (w.1, (l.1.0, l.1.1, w.0));
-})
-named_parameter_goes all r f before d a w v u _ = tt
-
-named_local_goes : (p : LinePlace) (o : Outer) (d : Declaring) → may_declare p o ≡ true → Outside o → FitsType d.typing → (t : Word) → From (Named (local p o) d.typing d.named) t (named_local p o d t)
-named_local_goes p o d m a w (mark Semicolon) =
-    lined_goes p (local_line d None) o (w, tt) a (λ _. m) (so_far (Named (local p o) d.typing d.named)) (mark Semicolon) (LowCore (Named (local p o) d.typing d.named)) (λ y. refl)
-    (declares_moves p d None o (LowCore (Named (local p o) d.typing d.named)) (λ l. ((l.0, tt), l.1.0, l.1.1)) (λ l. (l.0.0, (l.1, l.2))))
-named_local_goes p o d m a w (mark Assign) = (((m, w), a), λ y. refl, record { up = λ l v. ((l.1.0, l.0), l.1.1); down = λ l. (l.0.1, (l.0.0, l.1)) })
-named_local_goes p o d m a w _ = tt
-
 named_goes : (p : NamePlace) (ty : Typing) (n : List ℕ) → Sound (Named p ty n) → (t : Word) → From (Named p ty n) t (named p ty n t)
-named_goes (on_top all) ty n a t = named_top_goes all ty n a.0 a.1 t
-named_goes (field_of all s before) ty n a t = named_field_goes all s before (declaring_of ty n) a.0.0 a.0.1 a.1 t
-named_goes (parameter_of all r f before) ty n a t = named_parameter_goes all r f before (declaring_of ty n) a.0.0 a.0.1 a.0.2 a.1 t
-named_goes (local p o) ty n a t = named_local_goes p o (declaring_of ty n) a.0.0 a.0.1 a.1 t
-
-fields_goes : (all : List Part) (s : List ℕ) (before : List Declaring) → Sound (Fields all s before) → (t : Word) → From (Fields all s before) t (fields all s before t)
-fields_goes all s before a (mark CloseBrace) = top_goes (Fields all s before) (mark CloseBrace) all (structure s before) a.0 a.1 (a_semicolon ∷ []) (λ y. refl) (λ l. l) (λ l. l)
-fields_goes all s before a t = begin_goes (naming (field_of all s before)) (a.0, fields_fit before a.1) t
-
-array_goes : (all : List Part) (d : Declaring) → Sound (ArrayWant all d) → (t : Word) → From (ArrayWant all d) t (array_want all d t)
-array_goes all d a (number n) = top_goes (ArrayWant all d) (number n) all (global d (array n)) a.0 (a.1, tt) (a_bracket ∷ a_semicolon ∷ []) (λ y. refl) (λ l. l) (λ l. l)
-array_goes all d a _ = tt
-
-negative_goes : (all : List Part) (d : Declaring) → Sound (InitialNegative all d) → (t : Word) → From (InitialNegative all d) t (initial_negative all d t)
-negative_goes all d a (number n) = top_goes (InitialNegative all d) (number n) all (global d (initially true (Constant.Number n))) a.0 (a.1, tt) (a_semicolon ∷ []) (λ y. refl) (λ l. l) (λ l. l)
-negative_goes all d a (character c) = top_goes (InitialNegative all d) (character c) all (global d (initially true (Constant.Character c))) a.0 (a.1, tt) (a_semicolon ∷ []) (λ y. refl) (λ l. l) (λ l. l)
-negative_goes all d a _ = tt
-
-initial_goes : (all : List Part) (d : Declaring) → Sound (InitialWant all d) → (t : Word) → From (InitialWant all d) t (initial_want all d t)
-initial_goes all d a (mark Minus) = (a, λ y. refl, alike (LowCore (InitialWant all d)) (InitialNegative all d) (λ l. l) (λ l. l))
-initial_goes all d a (number n) = top_goes (InitialWant all d) (number n) all (global d (initially false (Constant.Number n))) a.0 (a.1, tt) (a_semicolon ∷ []) (λ y. refl) (λ l. l) (λ l. l)
-initial_goes all d a (character c) = top_goes (InitialWant all d) (character c) all (global d (initially false (Constant.Character c))) a.0 (a.1, tt) (a_semicolon ∷ []) (λ y. refl) (λ l. l) (λ l. l)
-initial_goes all d a (keyword Keyword.Null) = top_goes (InitialWant all d) (keyword Keyword.Null) all (global d (initially false Constant.Null)) a.0 (a.1, tt) (a_semicolon ∷ []) (λ y. refl) (λ l. l) (λ l. l)
-initial_goes all d a _ = tt
+named_goes (on_top all) ty n a (mark Semicolon) = top_goes (Named (on_top all) ty n) (mark Semicolon) all (global (declaring_of ty n) single) a.0 (a.1, tt) [] (λ y. refl) (λ l. (l.1, l.0)) (λ l. (l.1, l.0))
+named_goes (on_top all) ty n a (mark OpenBracket) = ((a.0, a.1), λ y. refl, record { up = λ l v. (l.1, l.0); down = λ l. (l.1, l.0) })
+named_goes (on_top all) ty n a (mark Assign) = ((a.0, a.1), λ y. refl, record { up = λ l v. (l.1, l.0); down = λ l. (l.1, l.0) })
+named_goes (on_top all) ty n a (mark OpenParenthesis) = ((a.0, a.1, tt), λ y. refl, record { up = λ l v. (l.1, l.0, tt); down = λ l. (l.1, l.0) })
+named_goes (field_of all s before) ty n a (mark Semicolon) = ((a.0.0, some_field before (declaring_of ty n) a.0.1 a.1), λ y. ap (λ z. program_words all (keyword Keyword.Struct ∷ (name s ∷ (mark OpenBrace ∷ z)))) (fields_more before (declaring_of ty n) y), record {
+  up = λ l v. (l.1.0, few_given_more before (declaring_of ty n) l.1.1 l.0);
+  down = λ l. let r = few_given_less before (declaring_of ty n) l.1 in (r.1, (l.0, r.0));
+})
+named_goes (parameter_of all r f before) ty n a (mark Comma) = ((a.0.0, a.0.1, declaring_more before (declaring_of ty n) a.0.2 a.1), λ y. ap (λ z. program_words all (type_words r (name f ∷ (mark OpenParenthesis ∷ z)))) (given_more before (declaring_of ty n) y), record {
+  up = λ l v. (l.1.0, l.1.1, few_given_more before (declaring_of ty n) l.1.2 l.0);
+  down = λ l. let w = few_given_less before (declaring_of ty n) l.2 in (w.1, (l.0, l.1, w.0));
+})
+named_goes (parameter_of all r f before) ty n a (mark CloseParenthesis) = ((a.0.0, a.0.1, declaring_more before (declaring_of ty n) a.0.2 a.1, tt), λ y. ap (λ z. program_words all (type_words r (name f ∷ (mark OpenParenthesis ∷ z)))) (parameters_more before (declaring_of ty n) (mark CloseParenthesis ∷ (mark OpenBrace ∷ y))), record {
+  up = λ l v. (tt, (l.1.0, l.1.1, few_given_more before (declaring_of ty n) l.1.2 l.0, tt, omega arith));
+  down = λ l. let w = few_given_less before (declaring_of ty n) l.1.2 in (w.1, (l.1.0, l.1.1, w.0));
+})
+named_goes (local p o) ty n a (mark Semicolon) =
+    lined_goes p (local_line (declaring_of ty n) None) o (a.1, tt) a.0.1 (λ _. a.0.0) (so_far (Named (local p o) ty n)) (mark Semicolon) (LowCore (Named (local p o) ty n)) (λ y. refl)
+    (declares_moves p (declaring_of ty n) None o (LowCore (Named (local p o) ty n)) (λ l. ((l.0, tt), l.1.0, l.1.1)) (λ l. (l.0.0, (l.1, l.2))))
+named_goes (local p o) ty n a (mark Assign) = (((a.0.0, a.1), a.0.1), λ y. refl, record { up = λ l v. ((l.1.0, l.0), l.1.1); down = λ l. (l.0.1, (l.0.0, l.1)) })
+named_goes _ ty n a _ = tt
 
 pub core_goes : (c : Core) → Sound c → (t : Word) → From c t (core_step c t)
 core_goes (Want k) a t = want_goes k a t
 core_goes (Have x k) a t = role_goes (role t) x k a t (spells t)
-core_goes (Called f k) a t = called_goes f k a t
-core_goes (Dotted x w k) a t = dotted_goes x w k a t
-core_goes (Spawning k) a t = spawning_goes k a t
+core_goes (Called f k) a (mark CloseParenthesis) = ((omega arith, tt, a), λ y. refl, record { up = λ l v. (omega (arith, l.0), tt, l.1); down = λ l. (omega (arith, l.0), l.2) })
+core_goes (Called f k) a t = from_core (Want (arguments f none k)) (Called f k) t (want (arguments f none k) t) (λ y. refl) (λ l. (omega (arith, l.0), tt, l.1)) (λ l. (omega (arith, l.0), l.2)) (want_goes (arguments f none k) (tt, a) t)
+core_goes (Dotted x w k) a (name n) = ((omega arith, (a.0, a.1), a.2), λ y. refl, record { up = λ l v. (omega (arith, l.0), l.1, l.2); down = λ l. (omega (arith, l.0), l.1, l.2) })
+core_goes (Dotted x w k) a _ = tt
+core_goes (Spawning k) a (name f) = ((tt, a), λ y. refl, record { up = λ l v. (l.0, tt, l.1); down = λ l. (l.0, l.2) })
+core_goes (Spawning k) a _ = tt
 core_goes (Start o) a t = start_goes o a t
 core_goes (Done s o) a t = done_goes s o a.0 a.2 a.3 t (λ h. never (takes_else s) a.1 h)
-core_goes (Returning o) a t = returned_goes o a t
-core_goes (ForOpen o) a t = head_goes o a t
-core_goes (ForTest l o) a t = for_test_goes l o a t
-core_goes (ForStep l e o) a t = for_step_goes l e o a t
-core_goes (Malloced v o) a t = malloced_goes v o a t
+core_goes (Returning o) a (mark Semicolon) = ((may o, refl, tt, a), λ y. refl, record { up = λ l v. (tt, omega (arith, l.0), l.1); down = λ l. (omega (arith, l.1), l.2) })
+core_goes (Returning o) a t = want_goes (part returning o) (tt, a) t
+core_goes (ForOpen o) a (mark Semicolon) = ((tt, a), λ y. refl, record { up = λ l v. (tt, l.0, l.1); down = λ l. (l.1, l.2) })
+core_goes (ForOpen o) a t =
+    or_else_goes (so_far (ForOpen o)) t (LowCore (ForOpen o)) (begin_type (naming (local as_first o)) t) (want (part (subject (in_line as_first)) o) t)
+    (begin_goes (naming (local as_first o)) (refl, a) t)
+    (want_goes (part (subject (in_line as_first)) o) (tt, a) t)
+core_goes (ForTest l o) a (mark Semicolon) = ((a.0, tt, a.1), λ y. refl, record { up = λ h v. (h.0, tt, h.1, h.2); down = λ h. (h.0, h.2, h.3) })
+core_goes (ForTest l o) a t = from_core (Want (part (testing l) o)) (ForTest l o) t (want (part (testing l) o) t) (λ y. refl) (λ h. ((h.0, h.1), h.2)) (λ h. (h.0.0, h.0.1, h.1)) (want_goes (part (testing l) o) a t)
+core_goes (ForStep l e o) a (mark CloseParenthesis) = (((a.0, a.1, tt), a.2), λ y. refl, record {
+  up = λ h v. (h.2, ((h.0, h.1, tt), omega (arith, h.2), h.3));
+  down = λ h. (h.1.0.0, h.1.0.1, h.0, h.1.2);
+})
+core_goes (ForStep l e o) a t = from_core (Want (part (subject (as_step l e)) o)) (ForStep l e o) t (want (part (subject (as_step l e)) o) t) (λ y. refl) (λ h. ((h.0, h.1, h.2), h.3)) (λ h. (h.0.0, h.0.1, h.0.2, h.1)) (want_goes (part (subject (as_step l e)) o) ((a.0, a.1), a.2) t)
+core_goes (Malloced v o) a (keyword Keyword.Sizeof) = ((a.0, tt, a.1), λ y. refl, record { up = λ l w. (l.0, tt, l.1); down = λ l. (l.0, l.2) })
+core_goes (Malloced v o) a t = want_goes (part (counting v) o) a t
 core_goes (Valued v r o) a t = value_goes v r o a.1 a.0 a.2 t
 core_goes (TypeWant p) a t = begin_goes p a t
 core_goes (ModeFirst p s) a t = base_goes p (Some s) a.0 a.1 t
-core_goes (StructWant p m) a t = struct_goes p m a.0 a.1 t
+core_goes (StructWant p m) a (name n) = based_goes p m (Base.Struct n) a.0 a.1
+core_goes (StructWant p m) a _ = tt
 core_goes (Typed p first b m below) a t = typed_goes p first b m below a t
-core_goes (PathWant p) a t = path_want_goes p a t
-core_goes (PathNamed p n) a t = path_named_goes p n a t
-core_goes (PathThrough p n) a t = path_through_goes p n a t
+core_goes (PathWant p) a (name n) = (a, λ y. refl, alike (LowMode p) (PathNamed p n) (λ l. l) (λ l. l))
+core_goes (PathWant p) a _ = tt
+core_goes (PathNamed p n) a (mark CloseParenthesis) = moded_goes p (locked n) a
+core_goes (PathNamed p n) a (mark Arrow) = (a, λ y. refl, alike (LowMode p) (PathThrough p n) (λ l. l) (λ l. l))
+core_goes (PathNamed p n) a _ = tt
+core_goes (PathThrough p x) a (name m) = moded_goes p (locked_through x m) a
+core_goes (PathThrough p x) a _ = tt
 core_goes (Named p ty n) a t = named_goes p ty n a t
-core_goes (Fields all s before) a t = fields_goes all s before a t
-core_goes (ArrayWant all d) a t = array_goes all d a t
-core_goes (InitialWant all d) a t = initial_goes all d a t
-core_goes (InitialNegative all d) a t = negative_goes all d a t
+core_goes (Fields all s before) a (mark CloseBrace) = top_goes (Fields all s before) (mark CloseBrace) all (structure s before) a.0 a.1 (a_semicolon ∷ []) (λ y. refl) (λ l. l) (λ l. l)
+core_goes (Fields all s before) a t = begin_goes (naming (field_of all s before)) (a.0, fields_fit before a.1) t
+core_goes (ArrayWant all d) a (number n) = top_goes (ArrayWant all d) (number n) all (global d (array n)) a.0 (a.1, tt) (a_bracket ∷ a_semicolon ∷ []) (λ y. refl) (λ l. l) (λ l. l)
+core_goes (ArrayWant all d) a _ = tt
+core_goes (InitialWant all d) a (mark Minus) = (a, λ y. refl, alike (LowCore (InitialWant all d)) (InitialNegative all d) (λ l. l) (λ l. l))
+core_goes (InitialWant all d) a (number n) = top_goes (InitialWant all d) (number n) all (global d (initially false (Constant.Number n))) a.0 (a.1, tt) (a_semicolon ∷ []) (λ y. refl) (λ l. l) (λ l. l)
+core_goes (InitialWant all d) a (character c) = top_goes (InitialWant all d) (character c) all (global d (initially false (Constant.Character c))) a.0 (a.1, tt) (a_semicolon ∷ []) (λ y. refl) (λ l. l) (λ l. l)
+core_goes (InitialWant all d) a (keyword Keyword.Null) = top_goes (InitialWant all d) (keyword Keyword.Null) all (global d (initially false Constant.Null)) a.0 (a.1, tt) (a_semicolon ∷ []) (λ y. refl) (λ l. l) (λ l. l)
+core_goes (InitialWant all d) a _ = tt
+core_goes (InitialNegative all d) a (number n) = top_goes (InitialNegative all d) (number n) all (global d (initially true (Constant.Number n))) a.0 (a.1, tt) (a_semicolon ∷ []) (λ y. refl) (λ l. l) (λ l. l)
+core_goes (InitialNegative all d) a (character c) = top_goes (InitialNegative all d) (character c) all (global d (initially true (Constant.Character c))) a.0 (a.1, tt) (a_semicolon ∷ []) (λ y. refl) (λ l. l) (λ l. l)
+core_goes (InitialNegative all d) a _ = tt
 core_goes (Top all) a t = begin_goes (naming (on_top all)) a t
