@@ -1,15 +1,9 @@
 -- A path of code comes to where a path of guarded code is.
-use Rattle.sharc_compile.proofs.{Imports.{◌≡◌, ℕ, ℤ, zero, suc, pos, ◌+◌, ◌*◌, ◌<◌, ◌≤◌, ◌⊎◌, inl, inr, Bool, true, false, ◌||◌, List, [], ◌∷◌, ◌++◌, length, map, replicate, refl, sym, ap, ◌∙◌, subst, ⊎_elim, arith, Option, Some, None, slice_index, get_or as slice_index_or, slice_set, lt-ltb, cases_eq, cases_lt, append-nil, map-append, length-replicate, length-set, get_or-set_same, get_or-set_other, get_or-replicate, get_or_past, if◌then◌else◌, option_map, option_to_list, SourceEvent, Code, Layout, Parameter, Instr, Start, Exit, Lower, Shape, Frame, TurnState, Runs, Tries, Stopped, Ended, Rests, Enters, FRAMES, int_of, Machine, ref, set_ref, goes, act, at_stage, instr_at, free, freed, layout_at, entered, called, with_parameter, function_of, no_frame, begun, after, machine_after, may_go, IsPath, asked_by, most_ints, most_refs, is_left_out, is_failed_try, repeats, paced_in, said, speaks_of, reference, started_with, in_free, ThreadLaws, IsGuarded, HasParameter, Program, Thread, statement_at, started, fresh, thread_after, weight_in, weight, NULL, instr_of, generated, program_over, Elements, elements_told, said_now, said_in, Has, IsConsistentTurn, IsConsistent, MayFind, IsArgument, IsArgumentAt, Same, IsReference, IsAt, IsLinking, MatchesThread, IsAtStage, phase_of, phase_at, IsOver, spent_at, by, begins, stop_turn, IsBeginning, HasCome, lowered_by, unless_told, lowered_in, all_null}, Registers.no_reference, Lowering.{lowered_of, lowered_same, step_lowers, lowers_next, is_lower, lower_goes}, Sames.{number_at, all_ints, all_refs, set_int_same, set_ref_same, same_retabled}, Turns.{Turned, Moved, Stayed, left_at}, OneTurn.{phase_now, by_kind, at_exit}}
+use Rattle.sharc_compile.proofs.{Imports.{◌≡◌, ℕ, ℤ, pos, ◌+◌, ◌*◌, ◌<◌, ◌≤◌, ◌⊎◌, inl, inr, Bool, true, false, ◌||◌, List, [], ◌∷◌, ◌++◌, length, map, replicate, refl, sym, ap, ◌∙◌, subst, ⊎_elim, arith, Option, Some, None, slice_index, get_or as slice_index_or, slice_set, lt-ltb, cases_eq, cases_lt, append-nil, map-append, length-replicate, length-set, get_or-set_same, get_or-set_other, get_or-replicate, get_or_past, if◌then◌else◌, option_map, option_to_list, SourceEvent, Code, Layout, Parameter, Instr, Start, Exit, Lower, Shape, Frame, TurnState, Runs, Tries, Stopped, Ended, Rests, Enters, FRAMES, int_of, Machine, ref, set_ref, goes, act, at_stage, instr_at, free, freed, layout_at, entered, called, with_parameter, function_of, no_frame, begun, after, machine_after, may_go, IsPath, asked_by, most_ints, most_refs, is_left_out, is_failed_try, repeats, paced_in, said, speaks_of, reference, started_with, in_free, ThreadLaws, IsGuarded, HasParameter, Program, Thread, statement_at, started, fresh, thread_after, weight_in, weight, NULL, instr_of, generated, program_over, Elements, elements_told, said_now, said_in, Has, IsConsistentTurn, IsConsistent, MayFind, IsArgument, IsArgumentAt, Same, IsReference, IsAt, IsLinking, MatchesThread, IsAtStage, phase_of, phase_at, IsOver, spent_at, by, begins, stop_turn, IsBeginning, HasCome, lowered_by, unless_told, lowered_in, all_null}, Registers.no_reference, Lowering.{lowered_of, lowered_same, step_lowers, lowers_next, is_lower, lower_goes}, Sames.{number_at, all_ints, all_refs, set_int_same, set_ref_same, same_retabled}, Turns.{Turned, Moved, Stayed, left_at}, OneTurn.{phase_now, by_kind, at_exit}, Holding.mapped_at}
 use Rattle.sharc_code.specs.{declared.state.At.At, Layout.function_at, Path.turn}
 use Rattle.sharc_guard.specs.Machine as Form
 use Rattle.sharc_guard.specs.Path as Guarded
 use Rattle.sharc_compile.proofs.Inside as Inner
-
--- ---- the instruction of a statement
-mapped_at : (f : Instr → Instr) (xs : List Instr) (n : ℕ) → f Exit ≡ Exit → slice_index_or (map f xs) n Exit ≡ f (slice_index_or xs n Exit)
-mapped_at f [] n e = sym e
-mapped_at f (x ∷ xs) zero e = refl
-mapped_at f (x ∷ xs) (suc n) e = mapped_at f xs n e
 
 all_zero : (n i : ℕ) → slice_index_or (replicate n (pos 0)) i (pos 0) ≡ pos 0
 all_zero n i = ⊎_elim

@@ -1,5 +1,5 @@
 -- A thread of well-formed guarded code stays within its functions, and its registers within the banks.
-use Rattle.sharc_compile.proofs.Imports.{◌≡◌, ℕ, ℤ, zero, suc, pos, negsuc, ◌+◌, ◌*◌, ◌<◌, ◌≤◌, ◌⊎◌, inl, inr, max, Bool, true, false, List, [], ◌∷◌, ◌++◌, length, fold, refl, sym, ap, ◌∙◌, subst, ⊎_elim, arith, Some, Result, Ok, Err, nat_lt, slice_get, get_or as slice_index_or, ltb-true, if◌then◌else◌, SourceEvent, CellAt, Trap, Act, Function, Parameter, Cell, Global, GlobalAt, InObject, ObjectAt, Register, Instr, ComputeInt, ComputeLong, NegateInt, NegateLong, ChkWidth, Jump, JumpIfZero, JumpIfNull, Call, Return, ChkNull, ChkHeld, ChkNotHeld, ChkPositive, ChkRoom, ChkLock, ChkLockLoaded, Bounds, GlobalBounds, TakeLocal, Lock, Spawn, Start, Exit, Frame, is_zero, no_function, most_ints, most_refs, is_null, IsBody, IsAtPlace, IsGuarded, Program, Thread, turn, Phase, Running, Leaving, Left, Turn, Goes, Halts, function_at, statement_at, step, handed, without_base, to, source_at, event_of, argument, started, fresh, times_more, times_le}
+use Rattle.sharc_compile.proofs.Imports.{slice_get-get_or, get_or_from_slice_get, ◌≡◌, ℕ, ℤ, zero, suc, pos, negsuc, ◌+◌, ◌*◌, ◌<◌, ◌≤◌, ◌⊎◌, inl, inr, max, Bool, true, false, List, [], ◌∷◌, ◌++◌, length, fold, refl, sym, ap, ◌∙◌, subst, ⊎_elim, arith, Result, Ok, Err, nat_lt, slice_get, get_or as slice_index_or, ltb-true, if◌then◌else◌, SourceEvent, CellAt, Trap, Act, Function, Parameter, Cell, Global, GlobalAt, InObject, ObjectAt, Register, Instr, ComputeInt, ComputeLong, NegateInt, NegateLong, ChkWidth, Jump, JumpIfZero, JumpIfNull, Call, Return, ChkNull, ChkHeld, ChkNotHeld, ChkPositive, ChkRoom, ChkLock, ChkLockLoaded, Bounds, GlobalBounds, TakeLocal, Lock, Spawn, Start, Exit, Frame, is_zero, no_function, most_ints, most_refs, is_null, IsBody, IsAtPlace, IsGuarded, Program, Thread, turn, Phase, Running, Leaving, Left, Turn, Goes, Halts, function_at, statement_at, step, handed, without_base, to, source_at, event_of, argument, started, fresh, times_more, times_le}
 use Rattle.sharc_guard.specs.{Machine.{int, ref, asserts, with_result, indexed, called, returned, lock_checked, exit, Stopped, back_to, next, set_int, cell_at}, Path.{after, with_parameter}}
 
 -- ---- the largest function
@@ -11,16 +11,6 @@ fold_each : (g : Function → ℕ) (s : ℕ) (xs : List Function) (n : ℕ) → 
 fold_each g s [] n z = omega arith
 fold_each g s (x ∷ xs) zero z = let h = fold_least g (max s (g x)) xs in omega arith
 fold_each g s (x ∷ xs) (suc n) z = fold_each g (max s (g x)) xs n z
-
-get_some : {X : Type 0} (xs : List X) (n : ℕ) (d : X) → n < length xs → slice_get xs n ≡ Some (slice_index_or xs n d)
-get_some [] n d lt = absurd (omega arith)
-get_some (x ∷ xs) zero d lt = refl
-get_some (x ∷ xs) (suc n) d lt = get_some xs n d (omega arith)
-
-get_within : {X : Type 0} (xs : List X) (n : ℕ) (d x : X) → slice_get xs n ≡ Some x → slice_index_or xs n d ≡ x
-get_within [] n d x e = absurd (cc)
-get_within (y ∷ xs) zero d x e = cc
-get_within (y ∷ xs) (suc n) d x e = get_within xs n d x e
 
 module _ (p : Program) (good : IsGuarded p) where
   abbrev pub most : ℕ
@@ -81,13 +71,13 @@ module _ (p : Program) (good : IsGuarded p) where
 
   -- what is known of a place
   pub at_place : (a : Thread) → Within a → IsAtPlace p good.owner a.pc (statement_at p a.pc)
-  at_place a h = good.each a.pc (statement_at p a.pc) h.body.behind (get_some p.statements a.pc Exit h.body.inside)
+  at_place a h = good.each a.pc (statement_at p a.pc) h.body.behind (slice_get-get_or p.statements a.pc Exit h.body.inside)
 
   pub at_exit : (a : Thread) → InExit a.pc a.frames → statement_at p a.pc ≡ Exit
-  at_exit a h = ap (statement_at p) h.pc_is ∙ get_within p.statements 1 Exit Exit good.exits
+  at_exit a h = ap (statement_at p) h.pc_is ∙ get_or_from_slice_get p.statements 1 Exit Exit good.exits
 
   pub at_start : statement_at p 0 ≡ Start good.start
-  at_start = get_within p.statements 0 Exit (Start good.start) good.starts
+  at_start = get_or_from_slice_get p.statements 0 (Start good.start) Exit good.starts
 
   module _ (a : Thread) (h : Within a) where
     goes_to : (pc : ℕ) → IsBody p good.owner (good.owner a.pc) pc → InBody pc a.ints_from a.refs_from a.frames
