@@ -1,5 +1,5 @@
 -- The guarded code of framed flat code is well formed.
-use Rattle.sharc_guard.proofs.{Imports.{◌≡◌, ℕ, zero, suc, ◌+◌, ◌-◌, ◌*◌, ◌^◌, ◌<◌, ◌≤◌, max, Bool, false, List, [], ◌∷◌, ◌++◌, length, map, fold, refl, sym, ap, ◌∙◌, subst, ⊎_elim, arith, Some, nat_lt, slice_get, get_or as slice_index_or, lt-ltb, le-ltb, cases_lt, length-append, length-map, if◌then◌else◌, Function, Parameter, PlaceMode, Dynamic, LockedGlobal, LockedSibling, LockedThrough, LockedLoaded, GlobalCells, Cell, Register, Char, Int, Instr, Jump, JumpIfZero, JumpIfNull, Call, Return, Start, Exit, ChkRead, ChkWrite, ChkLock, ChkLockLoaded, TestSole, Clear, no_function, IsInGlobal, Op, Spot, Flat, function_of, OpWrites, InLine, OpLeads, IsFramed, WritesWithin, BaseWithin, HandedWithin, HasFewCells, IsBody, IsAtPlace, IsEntry, IsGuarded, Program, function_at, expand, head, body, tail, own, width, offset, place, expanded, guarded, entered_at, check_under}, Placing.{HasAt, width_is, stands, place_next}, Walking.{IsIdle, idle_length, bodied, line_at as line_there}}
+use Rattle.sharc_guard.proofs.{Imports.{◌≡◌, ℕ, zero, suc, ◌+◌, ◌-◌, ◌*◌, ◌^◌, ◌<◌, ◌≤◌, max, Bool, false, List, [], ◌∷◌, ◌++◌, length, map, fold, refl, sym, ap, ◌∙◌, subst, ⊎_elim, arith, Some, nat_lt, slice_get, lt-ltb, le-ltb, cases_lt, length-append, length-map, if◌then◌else◌, Function, Parameter, PlaceMode, Dynamic, LockedGlobal, LockedSibling, LockedThrough, LockedLoaded, GlobalCells, Cell, Register, Char, Int, Instr, Jump, JumpIfZero, JumpIfNull, Call, Return, Start, Exit, ChkRead, ChkWrite, ChkLock, ChkLockLoaded, TestSole, Clear, IsInGlobal, Op, Spot, Flat, function_of, OpWrites, InLine, OpLeads, IsFramed, WritesWithin, BaseWithin, HandedWithin, HasFewCells, IsBody, IsAtPlace, IsEntry, IsGuarded, Program, function_at, expand, head, body, tail, own, width, offset, place, expanded, guarded, entered_at, check_under}, Placing.{HasAt, entered_is, part_is, width_is, stands, place_next}, Walking.{IsIdle, idle_length, bodied, line_at as line_there}}
 use Rattle.sharc_guard.specs.Form.{Leads, HasParameter}
 use Rattle.sharc_flat.specs.Framed as Framed
 
@@ -210,28 +210,10 @@ module _ (flat : Flat) (dropped : ℕ → Bool) (framed : IsFramed flat) where
 
   -- the registers of a function are those that flat code has
   ints_same : (f : ℕ) → (function_at p f).ints ≡ (function_of flat f).ints
-  ints_same f = there flat.functions f
-    where
-      there : (fs : List Function) (f : ℕ) → (slice_index_or (map (entered_at pl) fs) f no_function).ints ≡ (slice_index_or fs f no_function).ints
-      there [] f = refl
-      there (x ∷ fs) zero = refl
-      there (x ∷ fs) (suc f) = there fs f
+  ints_same = part_is dropped flat (λ (g : Function). g.ints) (λ g. refl)
 
   refs_same : (f : ℕ) → (function_at p f).refs ≡ (function_of flat f).refs
-  refs_same f = there flat.functions f
-    where
-      there : (fs : List Function) (f : ℕ) → (slice_index_or (map (entered_at pl) fs) f no_function).refs ≡ (slice_index_or fs f no_function).refs
-      there [] f = refl
-      there (x ∷ fs) zero = refl
-      there (x ∷ fs) (suc f) = there fs f
-
-  function_same : (f : ℕ) → f < length flat.functions → function_at p f ≡ entered_at pl (function_of flat f)
-  function_same f lt = there flat.functions f lt
-    where
-      there : (fs : List Function) (f : ℕ) → f < length fs → slice_index_or (map (entered_at pl) fs) f no_function ≡ entered_at pl (slice_index_or fs f no_function)
-      there [] f lt = absurd (omega arith)
-      there (x ∷ fs) zero lt = refl
-      there (x ∷ fs) (suc f) lt = there fs f (omega arith)
+  refs_same = part_is dropped flat (λ (g : Function). g.refs) (λ g. refl)
 
   -- ---- places of a line
   owner_is : (n j : ℕ) (o : Op) → slice_get flat.lines n ≡ Some o → j < width (dropped n) n o → owner (pl n + j) ≡ framed.owner n
@@ -380,7 +362,7 @@ module _ (flat : Flat) (dropped : ℕ → Bool) (framed : IsFramed flat) where
       let l = length-map flat.functions (entered_at pl) in
       let lf : f < length flat.functions = omega arith in
       let en = framed.entries f lf in
-      let same = function_same f lf in
+      let same = entered_is dropped flat f lf in
       record {
         body = subst (λ (fn : Function). IsBody p owner f fn.entry) (sym same) (line_begins f (function_of flat f).entry en.0);
         parameter = subst (λ (fn : Function). HasParameter fn fn.parameter) (sym same) (moved_parameter (function_of flat f) (function_of flat f).parameter en.1);
