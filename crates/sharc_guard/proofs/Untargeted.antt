@@ -34,7 +34,7 @@ all_leads pl drop n o =
     (head_all (Leads pl n o) drop n o (λ c pc h. absurd h) (λ c pc h. absurd h) (λ c pc h. absurd h) (λ pc h. absurd h) (λ r pc h. absurd h) (λ r c pc h. absurd h)) (own_leads pl n o))
     (tail_leads pl n o o)
 
-is_led : (lines : List Op) (n k : ℕ) (o : Op) (t : ℕ) → k < n → slice_get lines k ≡ Some o → leads_to k o t ≡ true → is_led_to lines n t ≡ true
+pub is_led : (lines : List Op) (n k : ℕ) (o : Op) (t : ℕ) → k < n → slice_get lines k ≡ Some o → leads_to k o t ≡ true → is_led_to lines n t ≡ true
 is_led lines zero k o t lt e l = absurd (omega arith)
 is_led lines (suc n) k o t lt e l =
     ⊎_elim

@@ -1,15 +1,10 @@
 -- A path of guarded code comes to where a path of flat code is.
-use Rattle.sharc_guard.proofs.{Imports.{◌≡◌, ℕ, ℤ, zero, suc, pos, ◌+◌, ◌-◌, ◌*◌, ◌<◌, ◌≤◌, ◌⊎◌, inl, inr, Bool, true, false, List, [], ◌∷◌, ◌++◌, length, refl, sym, ap, ◌∙◌, subst, arith, Some, None, Option, slice_get, append-nil, append_assoc, length-append, Act, Site, Trap, Function, Parameter, PlaceMode, Dynamic, SourcePlace, Char, Int, Instr, ChkRead, ChkWrite, NULL, stopped, event_of, Op, Spot, goes, asks, halts, op_turn, at_after, IsFlat, Leads, Thread, Phase, Running, Leaving, Left, Goes, Asks, Checks, Halts, Stopped, Ended, step, source_at, statement_at, weight, started, fresh, thread_after, weight_in, source_of, head, body, tail, own, expand, entered_at, check_under, Resolved, bottom, image, Wants, IsBeside}, Placing.{HasAt, entered_is, part_is, stands, place_next, statement_is, source_is}, Follows.{g, at, Callers, Is, Trailing, AtEnd, Near, Follow, follows, Bodied, Unlocked, leaving}, Heads.{IsPass, Asking, IsHead, AreHeads, heads}, Targets.{none_at as past}}
+use Rattle.sharc_guard.proofs.{Imports.{slice_get_past, slice_get-get_or, ◌≡◌, ℕ, ℤ, zero, suc, pos, ◌+◌, ◌-◌, ◌*◌, ◌<◌, ◌≤◌, ◌⊎◌, inl, inr, Bool, true, false, List, [], ◌∷◌, ◌++◌, length, refl, sym, ap, ◌∙◌, subst, arith, Some, None, Option, slice_get, append-nil, append_assoc, length-append, Act, Site, Trap, Function, Parameter, PlaceMode, Dynamic, SourcePlace, Char, Int, Instr, ChkRead, ChkWrite, NULL, stopped, event_of, Op, Spot, goes, asks, halts, op_turn, at_after, IsFlat, Leads, Thread, Phase, Running, Leaving, Left, Goes, Asks, Checks, Halts, Stopped, Ended, step, source_at, statement_at, weight, started, fresh, thread_after, weight_in, source_of, head, body, tail, own, expand, entered_at, check_under, Resolved, bottom, image, Wants, IsBeside}, Placing.{HasAt, entered_is, part_is, stands, place_next, statement_is, source_is}, Follows.{g, at, Callers, Is, Trailing, AtEnd, Near, Follow, follows, Bodied, Unlocked, leaving}, Heads.{IsPass, Asking, IsHead, AreHeads, heads}}
 use Rattle.sharc_flat.specs.Machine as Flat
 use Rattle.sharc_guard.specs.Machine as Form
 use Rattle.sharc_guard.specs.Machine.{Turn}
 use Rattle.sharc_guard.specs.Path as Guarded
 use Rattle.sharc_flat.specs.Path as Flow
-
-pub line_at : (lines : List Op) (n : ℕ) → n < length lines → (o : Op) × (slice_get lines n ≡ Some o)
-line_at [] n lt = absurd (omega arith)
-line_at (o ∷ os) zero lt = (o, refl)
-line_at (o ∷ os) (suc n) lt = line_at os n (omega arith)
 
 -- ---- how many statements a line is
 one_check : (drop : Bool) (dynamic : Instr) (spot : Spot) (n : ℕ) (mode : PlaceMode) → length (check_under drop dynamic spot n mode) ≤ 1
@@ -121,7 +116,7 @@ module _ (dropped : ℕ → Bool) (flat : Flat.Flat) (ok : IsFlat flat) where
     skip_line : (fuel : ℕ) (answers : List ℤ) (a : Thread) → Flow.IsPath flat m0 answers → Is dropped flat (at_after flat m0 answers) a → length flat.lines ≤ (at_after flat m0 answers).pc + suc fuel
         → (Flow.IsPath flat m0 (pos 0 ∷ answers) → Is dropped flat (at_after flat m0 (pos 0 ∷ answers)) a → length flat.lines ≤ (at_after flat m0 (pos 0 ∷ answers)).pc + fuel → Ahead a (pos 0 ∷ answers))
         → Ahead a answers
-    skip_line fuel answers a path h le rec = by_line (line_at flat.lines (at_after flat m0 answers).pc h.inside)
+    skip_line fuel answers a path h le rec = by_line (_, slice_get-get_or flat.lines (at_after flat m0 answers).pc Op.Enter h.inside)
       where
         enters : (o : Op) → slice_get flat.lines (at_after flat m0 answers).pc ≡ Some o → IsIdle o → Ahead a answers
         enters o s e =
@@ -314,7 +309,7 @@ module _ (dropped : ℕ → Bool) (flat : Flat.Flat) (ok : IsFlat flat) where
           let m = at_after flat m0 answers in
           let e = h.pc_is in
           let k : m.pc - length flat.lines ≡ h.steps = omega arith in
-          ap (λ l. Flat.line_turn flat l m) (past flat.lines m.pc (omega arith)) ∙ ap (Flat.end_turn flat m) k
+          ap (λ l. Flat.line_turn flat l m) (slice_get_past flat.lines m.pc (omega arith)) ∙ ap (Flat.end_turn flat m) k
 
       site_same : (f : ℕ) → (Form.function_at p f).site ≡ (Flat.function_of flat f).site
       site_same = part_is dropped flat (λ (g : Function). g.site) (λ g. refl)
@@ -525,7 +520,7 @@ module _ (dropped : ℕ → Bool) (flat : Flat.Flat) (ok : IsFlat flat) where
       turns k e =
           let e1 = h.pc_is in
           let z : m.pc - length flat.lines ≡ k = omega arith in
-          ap (λ l. Flat.line_turn flat l m) (past flat.lines m.pc (omega arith)) ∙ ap (Flat.end_turn flat m) z
+          ap (λ l. Flat.line_turn flat l m) (slice_get_past flat.lines m.pc (omega arith)) ∙ ap (Flat.end_turn flat m) z
 
       uu : (k : ℕ) → h.steps ≡ k → Form.turn p a ≡ Form.exit p a (leaving dropped flat k)
       uu k e = ap (λ i. step p i a) h.statement ∙ ap (Form.exit p a) (h.phase_is ∙ ap (leaving dropped flat) e)
