@@ -1,5 +1,5 @@
 -- A thread of well-formed guarded code stays within its functions, and its registers within the banks.
-use Rattle.sharc_compile.proofs.Imports.{slice_get-get_or, get_or_from_slice_get, ◌≡◌, ℕ, ℤ, zero, suc, pos, negsuc, ◌+◌, ◌*◌, ◌<◌, ◌≤◌, ◌⊎◌, inl, inr, max, Bool, true, false, List, [], ◌∷◌, ◌++◌, length, fold, refl, sym, ap, ◌∙◌, subst, ⊎_elim, arith, Result, Ok, Err, nat_lt, slice_get, get_or as slice_index_or, ltb-true, if◌then◌else◌, SourceEvent, CellAt, Trap, Act, Function, Parameter, Cell, Global, GlobalAt, InObject, ObjectAt, Register, Instr, ComputeInt, ComputeLong, NegateInt, NegateLong, ChkWidth, Jump, JumpIfZero, JumpIfNull, Call, Return, ChkNull, ChkHeld, ChkNotHeld, ChkPositive, ChkRoom, ChkLock, ChkLockLoaded, Bounds, GlobalBounds, TakeLocal, Lock, Spawn, Start, Exit, Frame, is_zero, no_function, most_ints, most_refs, is_null, IsBody, IsAtPlace, IsGuarded, Program, Thread, turn, Phase, Running, Leaving, Left, Turn, Goes, Halts, function_at, statement_at, step, handed, without_base, to, source_at, event_of, argument, started, fresh, times_more, times_le}
+use Rattle.sharc_compile.proofs.Imports.{slice_get-get_or, get_or_from_slice_get, ◌≡◌, ℕ, ℤ, zero, suc, pos, negsuc, ◌+◌, ◌*◌, ◌<◌, ◌≤◌, ◌⊎◌, inl, inr, max, Bool, true, false, List, [], ◌∷◌, ◌++◌, length, fold, refl, sym, ap, ◌∙◌, subst, ⊎_elim, arith, Result, Ok, Err, nat_lt, slice_get, get_or as slice_index_or, ltb-true, if◌then◌else◌, SourceEvent, CellAt, Trap, Act, Function, Parameter, Cell, Global, Register, Instr, ComputeInt, ComputeLong, NegateInt, NegateLong, ChkWidth, Jump, JumpIfZero, JumpIfNull, Call, Return, ChkNull, ChkHeld, ChkNotHeld, ChkPositive, ChkRoom, ChkLock, ChkLockLoaded, Bounds, GlobalBounds, TakeLocal, Lock, Spawn, Start, Exit, Frame, is_zero, no_function, most_ints, most_refs, is_null, IsBody, IsAtPlace, IsGuarded, Program, Thread, turn, Phase, Running, Leaving, Left, Turn, Goes, Halts, function_at, statement_at, step, handed, without_base, to, source_at, event_of, argument, started, fresh, times_more, times_le}
 use Rattle.sharc_guard.specs.{Machine.{int, ref, asserts, with_result, indexed, called, returned, lock_checked, exit, Stopped, back_to, next, set_int, cell_at}, Path.{after, with_parameter}}
 
 -- ---- the largest function
@@ -183,9 +183,7 @@ module _ (p : Program) (good : IsGuarded p) where
     locks_inside : (cell : Cell) (held : List CellAt) (events : List SourceEvent) → Next
         → Inside (next (record (without_base (record a { events = events; lowered = [] }) cell) { held = held }))
     locks_inside (Global g c) held events n = inl (goes_to (a.pc + 1) n)
-    locks_inside (GlobalAt g r) held events n = inl (goes_to (a.pc + 1) n)
-    locks_inside (InObject r c) held events n = inl (goes_to (a.pc + 1) n)
-    locks_inside (ObjectAt r at) held events n = inl (goes_to (a.pc + 1) n)
+    locks_inside _ held events n = inl (goes_to (a.pc + 1) n)
 
     spawns_inside : (from : Register) (r : ℕ) (x : ℤ) (events : List SourceEvent) → Next
         → Inside (next (set_int (handed (record a { events = events; lowered = [] }) from) r x))
