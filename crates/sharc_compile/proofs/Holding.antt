@@ -1,5 +1,5 @@
 -- From the registers of code to what the program holds.
-use Rattle.sharc_compile.proofs.{Imports.{◌≡◌, ◌≢◌, ℕ, zero, suc, ℤ, pos, ◌+◌, ◌^◌, ◌<◌, ◌⊎◌, inl, inr, ⊎_elim, Bool, List, [], ◌∷◌, ◌++◌, length, map, refl, sym, ap, ◌∙◌, Some, subst, arith, get_or, slice_get, append_assoc, append-nil, length-map, IsSomeAnd, slice_index, get_or as slice_index_or, Act, CellAt, SourceEvent, Assignment, GivenUp, Emptied, Released, Replaced, held_mutexes, wants, number_of, Code, Instr, Shape, Conflict, NoLock, NotSole, Trapped as Trap, Stop, Runs, Stopped, Machine, instr_at, place_at, reference, Flat, At, Came, asks, halts, on_turn, exec, start, at_after, asked, PathsAreRuns, AsksTheSame, MayStart, Guarded, Program, Thread, Check, Accesses, Locks, IsSole, is_held, statement_at, started, thread_after, Resolved, AreLowered, GuardedCounts, IsReleased, IsOf, IsReplaced, LocksStand, OnWay, Quietly, Tells, entered_at, guarded, IsLevel, LogsAreHeld, Elements, IsNumber, by, begins, HasCome, IsGenerated, instr_of, program_of, IsReference, IsAt, IsLinking, IsOver, StopsAt, ChecksNext, IsAccountedFor, HoldsBy, HoldsWhatIsCounted, IsRefused, IsReport, site_of}, Joined.sites_are, Sourced.{IsQuiet, line_quiet, same_given, beyond}}
+use Rattle.sharc_compile.proofs.{Imports.{◌≡◌, ◌≢◌, ℕ, zero, suc, ℤ, pos, ◌+◌, ◌^◌, ◌<◌, ◌⊎◌, inl, inr, ⊎_elim, Bool, List, [], ◌∷◌, ◌++◌, length, map, refl, sym, ap, ◌∙◌, Some, subst, arith, get_or, slice_get, append_assoc, append-nil, length-map, IsSomeAnd, slice_index, get_or as slice_index_or, Act, CellAt, SourceEvent, Assignment, GivenUp, Emptied, Released, Replaced, held_mutexes, wants, number_of, Code, Instr, Exit, Shape, Conflict, NoLock, NotSole, Trapped as Trap, Stop, Runs, Stopped, Machine, instr_at, place_at, reference, Flat, At, Came, asks, halts, on_turn, exec, start, at_after, asked, PathsAreRuns, AsksTheSame, MayStart, Guarded, Program, Thread, Check, Accesses, Locks, IsSole, is_held, statement_at, started, thread_after, Resolved, AreLowered, GuardedCounts, IsReleased, IsOf, IsReplaced, LocksStand, OnWay, Quietly, Tells, entered_at, guarded, IsLevel, LogsAreHeld, Elements, IsNumber, by, begins, HasCome, IsGenerated, instr_of, program_of, IsReference, IsAt, IsLinking, IsOver, StopsAt, ChecksNext, IsAccountedFor, HoldsBy, HoldsWhatIsCounted, IsRefused, IsReport, site_of}, Joined.sites_are, Sourced.{IsQuiet, line_quiet, same_given, beyond}}
 use Rattle.sharc_meaning.specs.State.{event_of}
 use Rattle.sharc_meaning.specs.Meaning as Meaning
 use Rattle.sharc_flat.specs.Machine.{Turn, goes, turn}
@@ -64,7 +64,7 @@ released_more (Replaced c ∷ gs) extra n h = released_more gs extra n h
 released_more (Emptied g ∷ gs) extra n h = released_more gs extra n h
 
 -- ---- instructions
-mapped_at : (f : Instr → Instr) (xs : List Instr) (n : ℕ) → f Instr.Exit ≡ Instr.Exit → slice_index_or (map f xs) n Instr.Exit ≡ f (slice_index_or xs n Instr.Exit)
+pub mapped_at : (f : Instr → Instr) (xs : List Instr) (n : ℕ) → f Exit ≡ Exit → slice_index_or (map f xs) n Exit ≡ f (slice_index_or xs n Exit)
 mapped_at f [] n e = sym e
 mapped_at f (x ∷ xs) zero e = refl
 mapped_at f (x ∷ xs) (suc n) e = mapped_at f xs n e
@@ -77,7 +77,7 @@ module _ (runs : PathsAreRuns) (counts : GuardedCounts) (logs : LogsAreHeld) (m 
 
   instr_is : (pc : ℕ) → instr_at code pc ≡ instr_of g.functions.items (statement_at p pc)
   instr_is pc =
-      ap (λ is. slice_index_or is pc Instr.Exit) is.instrs ∙ mapped_at (instr_of g.functions.items) g.statements.items pc refl ∙ ap (λ (q : Program). instr_of g.functions.items (statement_at q pc)) made
+      ap (λ is. slice_index_or is pc Exit) is.instrs ∙ mapped_at (instr_of g.functions.items) g.statements.items pc refl ∙ ap (λ (q : Program). instr_of g.functions.items (statement_at q pc)) made
 
   h : HasCome code s p T thread at said lowered paced
   h = subst (λ p. HasCome code s p T thread at said lowered paced) made h0

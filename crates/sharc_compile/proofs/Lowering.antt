@@ -1,22 +1,22 @@
 -- What a turn lowers, in guarded code and in code.
-use Rattle.sharc_compile.proofs.Imports.{◌≡◌, ℕ, ℤ, pos, negsuc, zero, suc, ◌+◌, ◌*◌, ◌⊎◌, inl, inr, Bool, true, false, not, List, [], ◌∷◌, ◌++◌, length, Option, Some, None, Result, Ok, Err, nat_lt, refl, sym, ap, ◌∙◌, arith, cond, append-nil, length-append, option_to_list, SourceEvent, Trap, Function, Cell, Global, GlobalAt, InObject, ObjectAt, Instr, Register, Int, Long, Shape, Frame, holds, is_zero, computed, negated, Machine, ref, lower, is_positive, made_cell, is_null, number_of, elements_of, Program, Thread, Phase, Running, Leaving, Left, Turn, Goes, Asks, Checks, Halts, is_held, without_base, handed, step, instr_of, lowered_by, unless_told}
+use Rattle.sharc_compile.proofs.Imports.{◌≡◌, ℕ, ℤ, pos, negsuc, zero, suc, ◌+◌, ◌*◌, ◌⊎◌, inl, inr, Bool, true, false, not, List, [], ◌∷◌, ◌++◌, length, Option, Some, None, Result, Ok, Err, nat_lt, refl, sym, ap, ◌∙◌, arith, cond, append-nil, length-append, option_to_list, SourceEvent, Trap, Function, Cell, Global, Instr, ComputeInt, ComputeLong, NegateInt, NegateLong, ChkWidth, JumpIfZero, JumpIfNull, Call, Return, ChkNull, ChkHeld, ChkNotHeld, ChkPositive, ChkRoom, ChkLock, ChkLockLoaded, Bounds, GlobalBounds, Load, Store, LoadRef, Exchange, Lower, New, TakeCell, TakeLocal, Give, Free, Lock, Unlock, Spawn, Join, Print, Start, Exit, CondEnter, CondWait, CondSignal, CondBroadcast, Register, Int, Long, Shape, Frame, holds, is_zero, computed, negated, Machine, ref, lower, is_positive, made_cell, is_null, number_of, elements_of, Program, Thread, Phase, Running, Leaving, Left, Turn, Goes, Asks, Checks, Halts, is_held, without_base, handed, step, instr_of, lowered_by, unless_told}
 use Rattle.sharc_code.specs.Path as Code
 use Rattle.sharc_guard.specs.Machine as Form
 use Rattle.sharc_guard.specs.{Machine.{int, cell_at, is_of_null}, Path.{after, may_go}}
 
 -- what a statement lowers
 abbrev pub lowered_of : Thread → Instr → List ℕ
-lowered_of a (Instr.Lower r) = number_of (Form.ref a r) ∷ []
+lowered_of a (Lower r) = number_of (Form.ref a r) ∷ []
 lowered_of a _ = []
 
 -- its instruction lowers the same
 pub lowered_same : (fs : List Function) (m : Machine) (a : Thread) → ((r : ℕ) → number_of (Form.ref a r) ≡ ref m r) → (i : Instr) → lowered_by m (instr_of fs i) ≡ lowered_of a i
-lowered_same fs m a h (Instr.Call f ints refs site) = refl
-lowered_same fs m a h (Instr.Lower r) = ap (λ n. n ∷ []) (sym (h r))
+lowered_same fs m a h (Call f ints refs site) = refl
+lowered_same fs m a h (Lower r) = ap (λ n. n ∷ []) (sym (h r))
 lowered_same fs m a h _ = refl
 
-pub is_lower : (a : Thread) (i : Instr) → ((r : ℕ) × (i ≡ Instr.Lower r)) ⊎ (lowered_of a i ≡ [])
-is_lower a (Instr.Lower r) = inl (r, refl)
+pub is_lower : (a : Thread) (i : Instr) → ((r : ℕ) × (i ≡ Lower r)) ⊎ (lowered_of a i ≡ [])
+is_lower a (Lower r) = inl (r, refl)
 is_lower a _ = inr refl
 
 pub lower_goes : (s : Shape) (n : ℕ) (then_ : Machine) (found : ℕ) → Code.after (lower s n then_) found ≡ then_
@@ -69,54 +69,53 @@ exits p a Left = tt
 
 base_same : (b : Thread) (cell : Cell) → ((without_base b cell).events ≡ b.events) × ((without_base b cell).lowered ≡ b.lowered)
 base_same b (Global global cell) = (refl, refl)
-base_same b (GlobalAt global r) = (refl, refl)
-base_same b (InObject r cell) = (refl, refl)
-base_same b (ObjectAt r at) = (refl, refl)
+base_same b _ = (refl, refl)
 
 handed_same : (b : Thread) (from : Register) → ((handed b from).events ≡ b.events) × ((handed b from).lowered ≡ b.lowered)
 handed_same b (Register.Int r) = (refl, refl)
 handed_same b (Register.Reference r) = (refl, refl)
 
 pub step_lowers : (p : Program) (i : Instr) (a : Thread) → Lowers a (lowered_of a i) (step p i a)
-step_lowers p (Instr.ComputeInt operator r x y site) a = resulted a r site (computed Int operator (int a x) (int a y))
-step_lowers p (Instr.ComputeLong operator r x y site) a = resulted a r site (computed Long operator (int a x) (int a y))
-step_lowers p (Instr.NegateInt r x site) a = resulted a r site (negated Int (int a x))
-step_lowers p (Instr.NegateLong r x site) a = resulted a r site (negated Long (int a x))
-step_lowers p (Instr.ChkWidth width r site) a = asserted a (holds width (int a r)) Trap.OutOfRange site
-step_lowers p (Instr.JumpIfZero r pc) a = choice a [] (is_zero (int a r)) (Goes (Form.to a pc)) (Form.goes a) (refl, kept a) (refl, kept a)
-step_lowers p (Instr.JumpIfNull r pc) a = choice a [] (is_null (Form.ref a r)) (Goes (Form.to a pc)) (Form.goes a) (refl, kept a) (refl, kept a)
-step_lowers p (Instr.Call f ints refs site) a = choice a [] (nat_lt (length a.frames) 256) _ (Halts (Form.Stopped Trap.CallDepth site)) (refl, kept a) tt
-step_lowers p (Instr.Return site) a = returns p a site a.frames
-step_lowers p (Instr.ChkNull r site) a = asserted a (not (is_null (Form.ref a r))) Trap.NullPointer site
-step_lowers p (Instr.ChkHeld cell site) a = asserted a (is_held a.held (cell_at p a cell)) Trap.MutexNotHeld site
-step_lowers p (Instr.ChkNotHeld cell site) a = asserted a (not (is_held a.held (cell_at p a cell))) Trap.MutexAlreadyHeld site
-step_lowers p (Instr.ChkPositive r site) a = asserted a (is_positive (int a r)) Trap.SizeNotPositive site
-step_lowers p (Instr.ChkRoom site) a = asserted a (nat_lt (length a.held) 16) Trap.TooManyLocks site
-step_lowers p (Instr.ChkLock cell site) a = locks a (is_of_null a cell) site cell p
-step_lowers p (Instr.ChkLockLoaded site) a = locks_loaded a (is_null a.pending) site
-step_lowers p (Instr.Bounds r base cells field site) a = indexes a r (int a r) cells field site (elements_of (Form.ref a base))
-step_lowers p (Instr.GlobalBounds r elements cells field site) a = indexes a r (int a r) cells field site elements
-step_lowers p (Instr.Lower r) a = (refl, refl)
-step_lowers p (Instr.TakeLocal r from site) a = choice a [] (is_null (Form.ref a from)) (Form.goes (Form.move_ref a r from)) _ (refl, kept a) (λ x. (_, refl, refl))
-step_lowers p (Instr.Lock cell site) a = λ x. let k = base_same (Form.told a _ _ _) cell in (_, k.0, k.1)
-step_lowers p (Instr.Spawn r function from site) a = λ x. let k = handed_same (Form.told a _ _ _) from in (_, k.0, k.1)
-step_lowers p (Instr.Start site) a = tt
-step_lowers p Instr.Exit a = exits p a a.phase
-step_lowers p (Instr.Constant r v) a = (refl, kept a)
-step_lowers p (Instr.Move r from) a = (refl, kept a)
-step_lowers p (Instr.MoveReference r from) a = (refl, kept a)
-step_lowers p (Instr.Null r) a = (refl, kept a)
-step_lowers p (Instr.Complement r x) a = (refl, kept a)
-step_lowers p (Instr.Not r x) a = (refl, kept a)
-step_lowers p (Instr.SameReference r x y) a = (refl, kept a)
-step_lowers p (Instr.Jump pc) a = (refl, kept a)
-step_lowers p (Instr.ChkRead cell site) a = (refl, kept a)
-step_lowers p (Instr.ChkWrite cell site) a = (refl, kept a)
-step_lowers p (Instr.Raise r from) a = (refl, kept a)
-step_lowers p (Instr.RaiseLoaded r) a = (refl, kept a)
-step_lowers p (Instr.TestSole r site) a = (refl, kept a)
-step_lowers p (Instr.Clear r cells) a = (refl, kept a)
-step_lowers p _ a = λ x. (_, refl, refl)
+step_lowers p (ComputeInt operator r x y site) a = resulted a r site (computed Int operator (int a x) (int a y))
+step_lowers p (ComputeLong operator r x y site) a = resulted a r site (computed Long operator (int a x) (int a y))
+step_lowers p (NegateInt r x site) a = resulted a r site (negated Int (int a x))
+step_lowers p (NegateLong r x site) a = resulted a r site (negated Long (int a x))
+step_lowers p (ChkWidth width r site) a = asserted a (holds width (int a r)) Trap.OutOfRange site
+step_lowers p (JumpIfZero r pc) a = choice a [] (is_zero (int a r)) (Goes (Form.to a pc)) (Form.goes a) (refl, kept a) (refl, kept a)
+step_lowers p (JumpIfNull r pc) a = choice a [] (is_null (Form.ref a r)) (Goes (Form.to a pc)) (Form.goes a) (refl, kept a) (refl, kept a)
+step_lowers p (Call f ints refs site) a = choice a [] (nat_lt (length a.frames) 256) _ (Halts (Form.Stopped Trap.CallDepth site)) (refl, kept a) tt
+step_lowers p (Return site) a = returns p a site a.frames
+step_lowers p (ChkNull r site) a = asserted a (not (is_null (Form.ref a r))) Trap.NullPointer site
+step_lowers p (ChkHeld cell site) a = asserted a (is_held a.held (cell_at p a cell)) Trap.MutexNotHeld site
+step_lowers p (ChkNotHeld cell site) a = asserted a (not (is_held a.held (cell_at p a cell))) Trap.MutexAlreadyHeld site
+step_lowers p (ChkPositive r site) a = asserted a (is_positive (int a r)) Trap.SizeNotPositive site
+step_lowers p (ChkRoom site) a = asserted a (nat_lt (length a.held) 16) Trap.TooManyLocks site
+step_lowers p (ChkLock cell site) a = locks a (is_of_null a cell) site cell p
+step_lowers p (ChkLockLoaded site) a = locks_loaded a (is_null a.pending) site
+step_lowers p (Bounds r base cells field site) a = indexes a r (int a r) cells field site (elements_of (Form.ref a base))
+step_lowers p (GlobalBounds r elements cells field site) a = indexes a r (int a r) cells field site elements
+step_lowers p (Load r cell site) a = λ x. (_, refl, refl)
+step_lowers p (Store r cell site) a = λ x. (_, refl, refl)
+step_lowers p (LoadRef cell site) a = λ x. (_, refl, refl)
+step_lowers p (Exchange r cell site) a = λ x. (_, refl, refl)
+step_lowers p (Lower r) a = (refl, refl)
+step_lowers p (New r count cells site) a = λ x. (_, refl, refl)
+step_lowers p (TakeCell r cell site) a = λ x. (_, refl, refl)
+step_lowers p (TakeLocal r from site) a = choice a [] (is_null (Form.ref a from)) (Form.goes (Form.move_ref a r from)) _ (refl, kept a) (λ x. (_, refl, refl))
+step_lowers p (Give r site) a = λ x. (_, refl, refl)
+step_lowers p (Free r layout site) a = λ x. (_, refl, refl)
+step_lowers p (Lock cell site) a = λ x. let k = base_same (Form.told a _ _ _) cell in (_, k.0, k.1)
+step_lowers p (Unlock r cell site) a = λ x. (_, refl, refl)
+step_lowers p (Spawn r function from site) a = λ x. let k = handed_same (Form.told a _ _ _) from in (_, k.0, k.1)
+step_lowers p (Join r site) a = λ x. (_, refl, refl)
+step_lowers p (Print r site) a = λ x. (_, refl, refl)
+step_lowers p (Start site) a = tt
+step_lowers p Exit a = exits p a a.phase
+step_lowers p (CondEnter cell site) a = λ x. (_, refl, refl)
+step_lowers p (CondWait cell site) a = λ x. (_, refl, refl)
+step_lowers p (CondSignal cell site) a = λ x. (_, refl, refl)
+step_lowers p (CondBroadcast cell site) a = λ x. (_, refl, refl)
+step_lowers p _ a = (refl, kept a)
 
 longer : (xs : List SourceEvent) (e : SourceEvent) → xs ≡ xs ++ e ∷ [] → ⊥
 longer xs e q = let l = ap length q in let m = length-append xs (e ∷ []) in omega arith

@@ -1,5 +1,5 @@
 -- What a turn of guarded code does to the log.
-use Rattle.sharc_guard.proofs.{Imports.{◌≡◌, ℕ, ℤ, pos, negsuc, ◌+◌, ◌*◌, Bool, true, false, not, filter, cond, List, [], ◌∷◌, ◌++◌, length, Result, Ok, Err, nat_lt, refl, sym, ap, ◌∙◌, Act, CellAt, SourceEvent, Trap, Parameter, Cell, ObjectAt, Instr, Register, Int, Long, Frame, holds, computed, negated, made_cell, held_mutexes, locked_by, same_cell, unlocked_by, is_null, number_of, elements_of, Program, Thread, Phase, Left, Goes, Asks, Checks, Halts, is_held, function_at, statement_at, step, fresh, started, thread_after, with_parameter, LogsAreHeld}, Holding.{quiet_held, lock_held, unlock_held}}
+use Rattle.sharc_guard.proofs.{Imports.{◌≡◌, ℕ, ℤ, pos, negsuc, ◌+◌, ◌*◌, Bool, true, false, not, filter, cond, List, [], ◌∷◌, ◌++◌, length, Result, Ok, Err, nat_lt, refl, sym, ap, ◌∙◌, Act, CellAt, SourceEvent, Trap, Parameter, Cell, ObjectAt, Instr, ComputeInt, ComputeLong, NegateInt, NegateLong, ChkWidth, JumpIfZero, JumpIfNull, Call, Return, ChkNull, ChkHeld, ChkNotHeld, ChkPositive, ChkRoom, ChkLock, ChkLockLoaded, Bounds, GlobalBounds, Load, Store, LoadRef, Exchange, New, TakeCell, TakeLocal, Give, Free, Lock, Unlock, Spawn, Join, Print, Start, Exit, CondEnter, CondWait, CondSignal, CondBroadcast, Register, Int, Long, Frame, holds, computed, negated, made_cell, held_mutexes, locked_by, same_cell, unlocked_by, is_null, number_of, elements_of, Program, Thread, Phase, Left, Goes, Asks, Checks, Halts, is_held, function_at, statement_at, step, fresh, started, thread_after, with_parameter, LogsAreHeld}, Holding.{quiet_held, lock_held, unlock_held}}
 use Rattle.sharc_code.specs.{Arithmetic.is_zero, Machine.is_positive}
 use Rattle.sharc_guard.specs.Machine as Form
 use Rattle.sharc_guard.specs.{Machine.{Turn, int, cell_at, is_of_null, without_base, handed, turn}, Path.after}
@@ -59,44 +59,44 @@ handed_same b (Register.Int r) = (refl, refl)
 handed_same b (Register.Reference r) = (refl, refl)
 
 step_logs : (p : Program) (i : Instr) (a : Thread) → Logs a (step p i a)
-step_logs p (Instr.ComputeInt operator r x y site) a = resulted a r site (computed Int operator (int a x) (int a y))
-step_logs p (Instr.ComputeLong operator r x y site) a = resulted a r site (computed Long operator (int a x) (int a y))
-step_logs p (Instr.NegateInt r x site) a = resulted a r site (negated Int (int a x))
-step_logs p (Instr.NegateLong r x site) a = resulted a r site (negated Long (int a x))
-step_logs p (Instr.ChkWidth width r site) a = asserted a (holds width (int a r)) Trap.OutOfRange site
-step_logs p (Instr.JumpIfZero r pc) a = choice a (is_zero (int a r)) (Goes (Form.to a pc)) (Form.goes a) (refl, refl) (refl, refl)
-step_logs p (Instr.JumpIfNull r pc) a = choice a (is_null (Form.ref a r)) (Goes (Form.to a pc)) (Form.goes a) (refl, refl) (refl, refl)
-step_logs p (Instr.Call f ints refs site) a = choice a (nat_lt (length a.frames) 256) _ (Halts (Form.Stopped Trap.CallDepth site)) (refl, refl) tt
-step_logs p (Instr.Return site) a = returns p a site a.frames
-step_logs p (Instr.ChkNull r site) a = asserted a (not (is_null (Form.ref a r))) Trap.NullPointer site
-step_logs p (Instr.ChkHeld cell site) a = asserted a (is_held a.held (cell_at p a cell)) Trap.MutexNotHeld site
-step_logs p (Instr.ChkNotHeld cell site) a = asserted a (not (is_held a.held (cell_at p a cell))) Trap.MutexAlreadyHeld site
-step_logs p (Instr.ChkPositive r site) a = asserted a (is_positive (int a r)) Trap.SizeNotPositive site
-step_logs p (Instr.ChkRoom site) a = asserted a (nat_lt (length a.held) 16) Trap.TooManyLocks site
-step_logs p (Instr.ChkLock cell site) a = locks a (is_of_null a cell) (cell_at p a cell) site
-step_logs p (Instr.ChkLockLoaded site) a = locks a (is_null a.pending) (made_cell (number_of a.pending) 0) site
-step_logs p (Instr.Bounds r base cells field site) a = indexes a r (int a r) cells field site (elements_of (Form.ref a base))
-step_logs p (Instr.GlobalBounds r elements cells field site) a = indexes a r (int a r) cells field site elements
-step_logs p (Instr.Load r cell site) a = λ x. (_, refl, refl)
-step_logs p (Instr.Store r cell site) a = λ x. (_, refl, refl)
-step_logs p (Instr.LoadRef cell site) a = λ x. (_, refl, refl)
-step_logs p (Instr.Exchange r cell site) a = λ x. (_, refl, refl)
-step_logs p (Instr.New r count cells site) a = λ x. (_, refl, refl)
-step_logs p (Instr.TakeCell r cell site) a = λ x. (_, refl, refl)
-step_logs p (Instr.TakeLocal r from site) a = choice a (is_null (Form.ref a from)) (Form.goes (Form.move_ref a r from)) _ (refl, refl) (λ x. (_, refl, refl))
-step_logs p (Instr.Give r site) a = λ x. (_, refl, refl)
-step_logs p (Instr.Free r layout site) a = λ x. (_, refl, refl)
-step_logs p (Instr.Lock cell site) a = λ x. (_, base_events (Form.told a _ _ _) cell, refl)
-step_logs p (Instr.Unlock r cell site) a = λ x. (_, refl, refl)
-step_logs p (Instr.Spawn r function from site) a = λ x. let k = handed_same (Form.told a _ _ _) from in (_, k.0, k.1)
-step_logs p (Instr.Join r site) a = λ x. (_, refl, refl)
-step_logs p (Instr.Print r site) a = λ x. (_, refl, refl)
-step_logs p (Instr.Start site) a = tt
-step_logs p Instr.Exit a = exits p a a.phase
-step_logs p (Instr.CondEnter cell site) a = λ x. (_, refl, refl)
-step_logs p (Instr.CondWait cell site) a = λ x. (_, refl, refl)
-step_logs p (Instr.CondSignal cell site) a = λ x. (_, refl, refl)
-step_logs p (Instr.CondBroadcast cell site) a = λ x. (_, refl, refl)
+step_logs p (ComputeInt operator r x y site) a = resulted a r site (computed Int operator (int a x) (int a y))
+step_logs p (ComputeLong operator r x y site) a = resulted a r site (computed Long operator (int a x) (int a y))
+step_logs p (NegateInt r x site) a = resulted a r site (negated Int (int a x))
+step_logs p (NegateLong r x site) a = resulted a r site (negated Long (int a x))
+step_logs p (ChkWidth width r site) a = asserted a (holds width (int a r)) Trap.OutOfRange site
+step_logs p (JumpIfZero r pc) a = choice a (is_zero (int a r)) (Goes (Form.to a pc)) (Form.goes a) (refl, refl) (refl, refl)
+step_logs p (JumpIfNull r pc) a = choice a (is_null (Form.ref a r)) (Goes (Form.to a pc)) (Form.goes a) (refl, refl) (refl, refl)
+step_logs p (Call f ints refs site) a = choice a (nat_lt (length a.frames) 256) _ (Halts (Form.Stopped Trap.CallDepth site)) (refl, refl) tt
+step_logs p (Return site) a = returns p a site a.frames
+step_logs p (ChkNull r site) a = asserted a (not (is_null (Form.ref a r))) Trap.NullPointer site
+step_logs p (ChkHeld cell site) a = asserted a (is_held a.held (cell_at p a cell)) Trap.MutexNotHeld site
+step_logs p (ChkNotHeld cell site) a = asserted a (not (is_held a.held (cell_at p a cell))) Trap.MutexAlreadyHeld site
+step_logs p (ChkPositive r site) a = asserted a (is_positive (int a r)) Trap.SizeNotPositive site
+step_logs p (ChkRoom site) a = asserted a (nat_lt (length a.held) 16) Trap.TooManyLocks site
+step_logs p (ChkLock cell site) a = locks a (is_of_null a cell) (cell_at p a cell) site
+step_logs p (ChkLockLoaded site) a = locks a (is_null a.pending) (made_cell (number_of a.pending) 0) site
+step_logs p (Bounds r base cells field site) a = indexes a r (int a r) cells field site (elements_of (Form.ref a base))
+step_logs p (GlobalBounds r elements cells field site) a = indexes a r (int a r) cells field site elements
+step_logs p (Load r cell site) a = λ x. (_, refl, refl)
+step_logs p (Store r cell site) a = λ x. (_, refl, refl)
+step_logs p (LoadRef cell site) a = λ x. (_, refl, refl)
+step_logs p (Exchange r cell site) a = λ x. (_, refl, refl)
+step_logs p (New r count cells site) a = λ x. (_, refl, refl)
+step_logs p (TakeCell r cell site) a = λ x. (_, refl, refl)
+step_logs p (TakeLocal r from site) a = choice a (is_null (Form.ref a from)) (Form.goes (Form.move_ref a r from)) _ (refl, refl) (λ x. (_, refl, refl))
+step_logs p (Give r site) a = λ x. (_, refl, refl)
+step_logs p (Free r layout site) a = λ x. (_, refl, refl)
+step_logs p (Lock cell site) a = λ x. (_, base_events (Form.told a _ _ _) cell, refl)
+step_logs p (Unlock r cell site) a = λ x. (_, refl, refl)
+step_logs p (Spawn r function from site) a = λ x. let k = handed_same (Form.told a _ _ _) from in (_, k.0, k.1)
+step_logs p (Join r site) a = λ x. (_, refl, refl)
+step_logs p (Print r site) a = λ x. (_, refl, refl)
+step_logs p (Start site) a = tt
+step_logs p Exit a = exits p a a.phase
+step_logs p (CondEnter cell site) a = λ x. (_, refl, refl)
+step_logs p (CondWait cell site) a = λ x. (_, refl, refl)
+step_logs p (CondSignal cell site) a = λ x. (_, refl, refl)
+step_logs p (CondBroadcast cell site) a = λ x. (_, refl, refl)
 step_logs p _ a = (refl, refl)
 
 -- ---- a path
