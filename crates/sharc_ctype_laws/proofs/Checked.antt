@@ -1,6 +1,6 @@
 -- Where no fault is noted, what is assigned, initialised, passed and returned agrees, statements meet the rules, the
 -- types that are written name known structs and lock paths, and all expressions are judged in their scopes: one walk.
-use Rattle.sharc_ctype_laws.proofs.{Imports.{passed, parameters_named, named_at, argument, no_arguments, at, Some, List, None, Option, [], ap, cond, drop, true, false, length, refl, subst, ℕ, ◌++◌, ◌+◌, ◌∙◌, ◌∷◌, ◌≡◌, both, AllByRecursion, back, front, lvalue, value, Declaration, Expression, First, Head, Item, Local, Right, Simple, Statement, Statements, statement, expressions, in_arguments, function, in_right, in_simple, Arguments, Function, assign, declares, does, does_call, malloc, no_statements, nothing, declared, Kind, WrittenType, declared_kind, same_kind, void, met, look_up, Need, unagreed, is_fine, wanted, BadForm, Scope, Role, result, count, count_notes, notes_of, notes_of_all, place_kind, type_of, initial_notes, head_notes, fields_notes, function_notes, in_body, item_notes, items_notes, parameters_notes, Resolution, declarations_in, declarations_of, functions_in, kind_at, variable, Around, after, behind_first, first_locals, first_notes as first_part_notes, in_head, local_notes, locals_in, locals_in_all, looping, notes_in, notes_in_all, opened, return_notes, returned_as, right_notes, simple_notes, step_notes, tests_notes, wanted_by, with_names, IsFair, argument_transfers, transfers, first_transfers, function_transfers, gives, local_transfers, right_transfers, simple_transfers, statement_transfers, statements_transfers, Placing, places_in, places_in_all, places_in_first, places_in_local, places_of, places_of_all, IsNamedType, types_in, types_in_arguments, types_in_declarations, types_in_first, types_in_head, types_in_item, types_in_items, types_in_local, types_in_option, types_in_right, types_in_simple, types_in_statement, types_in_statements, in_option, sym, IfSome, true≢false, is_aggregate, test_notes, IsInteger, IsHeld, MeetsRight, MeetsSimple, MeetsLocal, MeetsTest, MeetsFirst, MeetsHead, MeetsReturn, Meets, AllMeet, MeetsRules}, Fair.{fair_call, fair_spawn, right_agrees}, FileScene.{fields_are, body_scene}, Held.{Held, left, right, not_wrong, well}, Judged.{judged, met_by, lvalue_by, argument_agrees, call_callee}, Scenes.{IsSolid, IsField, IsScene, type_fine, need_fits, need_met, type_solid}, KindLemmas.{integer_is, scalar_is, one_kind}, Ruled.{lvalue_not_null, held_scalar, held_object}, TypesNamed.type_named, Walked.{IsSeen, seen, AreDeclared, scene_with, declared_meant, local_scene, head_scene, after_scene, JudgedAt, placed}, Standings.lvalue_held}
+use Rattle.sharc_ctype_laws.proofs.{Imports.{passed, parameters_named, named_at, argument, no_arguments, at, Some, List, None, Option, [], ap, cond, drop, true, false, length, refl, subst, ℕ, ◌++◌, ◌+◌, ◌∙◌, ◌∷◌, ◌≡◌, both, AllByRecursion, back, front, lvalue, value, Declaration, Expression, First, Head, Item, Local, Right, Simple, Statement, Statements, statement, expressions, in_arguments, function, in_right, in_simple, Arguments, Function, assign, declares, does, does_call, malloc, no_statements, nothing, declared, Kind, WrittenType, declared_kind, same_kind, void, met, look_up, Need, unagreed, is_fine, wanted, BadForm, Scope, Role, result, count, count_notes, notes_of, notes_of_all, place_kind, type_of, initial_notes, head_notes, fields_notes, function_notes, in_body, item_notes, items_notes, parameters_notes, Resolution, declarations_in, declarations_of, functions_in, kind_at, variable, Around, after, behind_first, first_locals, first_notes as first_part_notes, in_head, local_notes, locals_in, locals_in_all, looping, notes_in, notes_in_all, opened, return_notes, returned_as, right_notes, simple_notes, step_notes, tests_notes, wanted_by, with_names, IsFair, argument_transfers, transfers, first_transfers, function_transfers, gives, local_transfers, right_transfers, simple_transfers, statement_transfers, statements_transfers, Placing, places_in, places_in_all, places_in_first, places_in_local, places_of, places_of_all, IsNamedType, types_in, types_in_arguments, types_in_declarations, types_in_first, types_in_head, types_in_item, types_in_items, types_in_local, types_in_option, types_in_right, types_in_simple, types_in_statement, types_in_statements, in_option, sym, IfSome, true≢false, is_aggregate, test_notes, IsInteger, IsHeld, MeetsRight, MeetsSimple, MeetsLocal, MeetsTest, MeetsFirst, MeetsHead, MeetsReturn, Meets, AllMeet, MeetsRules, type_notes, IsPlain, Named, Heads, heads_notes, structs_in, globals_in, IsItself, NameThemselves, each}, Fair.{fair_call, fair_spawn, right_agrees}, FileScene.{fields_are, body_scene}, Held.{Held, left, right, not_wrong, well, head_named}, Judged.{judged, met_by, lvalue_by, argument_agrees, call_callee}, Scenes.{IsSolid, IsField, IsScene, type_fine, need_fits, need_met, type_solid}, KindLemmas.{integer_is, scalar_is, one_kind}, Ruled.{lvalue_not_null, held_scalar, held_object}, Plain.{Plain, plain_type, plain_parameters}, Themselves.{Own, own_fields, own_parameters, itself as all_themselves, heads_named, from_none, StructNamed, GlobalNamed, FunctionNamed, AreNumbered}, TypesNamed.type_named, Walked.{IsSeen, seen, AreDeclared, scene_with, declared_meant, local_scene, head_scene, after_scene, JudgedAt, placed}, Standings.lvalue_held}
 use Rattle.sharc_tree.specs.Tree as tree
 use Rattle.sharc_ctype.specs.Transfers.{Transfer, in_option as given_in}
 
@@ -128,24 +128,35 @@ of_return r around scope scene w word (Some e) is h =
       meets = (λ v. true≢false (sym (ap (λ k. same_kind k void) (is ∙ v)) ∙ no_void), scalar_is (kind_at r e) m.fits);
     }
 
--- ---- statements: the rule that they meet, what is given, the types that are written, and the expressions with their scopes
+-- ---- statements: the rule that they meet, what is given, the types that are written, the expressions with their
+-- scopes, and the locals, each named by its name and no struct or mutex
 
-pub record Stated (r : Resolution) (M : Type 0) (ts : List Transfer) (ws : List WrittenType) (ps : List Placing) : Type 0 where
+abbrev pub IsLocal : Resolution → Declaration → Type 0
+IsLocal r d = Own r Named.Variable d × Plain d
+
+pub record Stated (r : Resolution) (M : Type 0) (ts : List Transfer) (ws : List WrittenType) (ps : List Placing) (ds : List Declaration) : Type 0 where
   pub fair : AllByRecursion (IsFair r) ts
   pub named : AllByRecursion (IsNamedType r) ws
   pub places : AllByRecursion (JudgedAt r) ps
   pub meets : M
+  pub locals : AllByRecursion (IsLocal r) ds
 
-nothing_stated : {r : Resolution} {M : Type 0} → M → Stated r M [] [] []
-nothing_stated m = record { fair = tt; named = tt; places = tt; meets = m }
+nothing_stated : {r : Resolution} {M : Type 0} → M → Stated r M [] [] [] []
+nothing_stated m = record { fair = tt; named = tt; places = tt; meets = m; locals = tt }
 
-joined : {r : Resolution} {M N : Type 0} {ts us : List Transfer} {ws vs : List WrittenType} {ps qs : List Placing} → Stated r M ts ws ps → Stated r N us vs qs → Stated r (M × N) (ts ++ us) (ws ++ vs) (ps ++ qs)
-joined {r} {M} {N} {ts} {us} {ws} {vs} {ps} {qs} h k = record { fair = both (IsFair r) ts us h.fair k.fair; named = both (IsNamedType r) ws vs h.named k.named; places = both (JudgedAt r) ps qs h.places k.places; meets = (h.meets, k.meets) }
+joined : {r : Resolution} {M N : Type 0} {ts us : List Transfer} {ws vs : List WrittenType} {ps qs : List Placing} {ds es : List Declaration} → Stated r M ts ws ps ds → Stated r N us vs qs es → Stated r (M × N) (ts ++ us) (ws ++ vs) (ps ++ qs) (ds ++ es)
+joined {r} {M} {N} {ts} {us} {ws} {vs} {ps} {qs} {ds} {es} h k = record {
+  fair = both (IsFair r) ts us h.fair k.fair;
+  named = both (IsNamedType r) ws vs h.named k.named;
+  places = both (JudgedAt r) ps qs h.places k.places;
+  meets = (h.meets, k.meets);
+  locals = both (IsLocal r) ds es h.locals k.locals;
+}
 
-there : {r : Resolution} {scope : Scope} {M : Type 0} {ts : List Transfer} {ws : List WrittenType} {es : List Expression} → Part r scope M ts ws es → Stated r M ts ws (at scope es)
-there {r} {scope} {M} {ts} {ws} {es} h = record { fair = h.told.fair; named = h.told.named; places = placed r scope es h.told.seen; meets = h.meets }
+there : {r : Resolution} {scope : Scope} {M : Type 0} {ts : List Transfer} {ws : List WrittenType} {es : List Expression} → Part r scope M ts ws es → Stated r M ts ws (at scope es) []
+there {r} {scope} {M} {ts} {ws} {es} h = record { fair = h.told.fair; named = h.told.named; places = placed r scope es h.told.seen; meets = h.meets; locals = tt }
 
-of_local : (r : Resolution) (around : Around) (scope : Scope) → IsScene r scope → (l : Local) → AreDeclared r (l.declaration ∷ []) → Held r (local_notes around scope l) → Stated r (MeetsLocal r l) (local_transfers r l) (types_in_local l) (places_in_local around scope l)
+of_local : (r : Resolution) (around : Around) (scope : Scope) → IsScene r scope → (l : Local) → AreDeclared r (l.declaration ∷ []) → Held r (local_notes around scope l) → Stated r (MeetsLocal r l) (local_transfers r l) (types_in_local l) (places_in_local around scope l) (l.declaration ∷ [])
 of_local r around scope scene l d h =
     let inner : Scope = with_names scope (declared around.block l.declaration scope.names) in
     let initial = of_initial r inner (local_scene r around scope scene l d.0 h) l.declaration l.initial (type_fine r scope [] Role.Local l.declaration.written (left r _ _ (left r _ _ h)))
@@ -155,16 +166,17 @@ of_local r around scope scene l d h =
       named = (type_named r scope scene [] tt Role.Local l.declaration.written (left r _ _ (left r _ _ h)), initial.told.named);
       places = placed r inner (in_option in_right l.initial) initial.told.seen;
       meets = initial.meets;
+      locals = ((head_named r _ _ _ (right r (type_notes scope [] Role.Local l.declaration.written) _ (left r _ _ h)), plain_type r scope [] Role.Local l.declaration.written refl refl (left r _ _ (left r _ _ h))), tt);
     }
 
-of_first : (r : Resolution) (around : Around) (scope : Scope) → IsScene r scope → (f : First) → AreDeclared r (first_locals f) → Held r (first_part_notes around scope f) → Stated r (MeetsFirst r f) (first_transfers r f) (types_in_first f) (places_in_first around scope f)
+of_first : (r : Resolution) (around : Around) (scope : Scope) → IsScene r scope → (f : First) → AreDeclared r (first_locals f) → Held r (first_part_notes around scope f) → Stated r (MeetsFirst r f) (first_transfers r f) (types_in_first f) (places_in_first around scope f) (first_locals f)
 of_first r around scope scene nothing d h = nothing_stated tt
 of_first r around scope scene (declares l) d h = of_local r around scope scene l d h
 of_first r around scope scene (does x) d h = there (of_simple r scope scene x h)
 
 of_head : (r : Resolution) (around : Around) (scope : Scope) → IsScene r scope → (x : Head) → AreDeclared r (first_locals x.first) → Held r (head_notes around scope x)
     → Stated r (MeetsHead r x) (first_transfers r x.first ++ given_in (transfers r) x.test ++ given_in (simple_transfers r) x.step) (types_in_head x)
-    (places_in_first around scope x.first ++ at (in_head around scope x) (in_option expressions x.test ++ in_option in_simple x.step))
+    (places_in_first around scope x.first ++ at (in_head around scope x) (in_option expressions x.test ++ in_option in_simple x.step)) (first_locals x.first)
 of_head r around scope scene x d h =
     let inner = head_scene r around scope scene x d h in
     let first = of_first r around scope scene x.first d (left r _ _ (left r _ _ h)) in
@@ -175,11 +187,12 @@ of_head r around scope scene x d h =
       named = both (IsNamedType r) (types_in_first x.first ++ types_in_option types_in x.test) (types_in_option types_in_simple x.step) (both (IsNamedType r) (types_in_first x.first) (types_in_option types_in x.test) first.named test.told.named) step.told.named;
       places = both (JudgedAt r) (places_in_first around scope x.first) _ first.places (placed r (in_head around scope x) _ (both _ (in_option expressions x.test) (in_option in_simple x.step) test.told.seen step.told.seen));
       meets = (first.meets, test.meets, step.meets);
+      locals = first.locals;
     }
 
 mutual
   of_statement : (r : Resolution) (w : WrittenType) (around : Around) (scope : Scope) → IsScene r scope → around.result ≡ declared_kind w → (a : Statement) → AreDeclared r (locals_in a) → Held r (notes_in around scope a)
-      → Stated r (Meets r w around.in_loop a) (statement_transfers r w a) (types_in_statement a) (places_in around scope a)
+      → Stated r (Meets r w around.in_loop a) (statement_transfers r w a) (types_in_statement a) (places_in around scope a) (locals_in a)
   of_statement r w around scope scene is (tree.block s all) d h = of_statements r w (opened around scope.names) scope scene is all d h
   of_statement r w around scope scene is (tree.declare s l) d h = of_local r around scope scene l d h
   of_statement r w around scope scene is (tree.simple s x) d h = there (of_simple r scope scene x h)
@@ -188,7 +201,7 @@ mutual
   of_statement r w around scope scene is (tree.if_then_else s e a b) d h =
       let one = of_statement r w (opened around scope.names) scope scene is a (front _ (locals_in a) (locals_in b) d) (right r _ _ (left r _ _ h)) in
       let two_parts = joined (joined (there (of_test r scope scene e (left r _ _ (left r _ _ h)))) one) (of_statement r w (opened around scope.names) scope scene is b (back _ (locals_in a) (locals_in b) d) (right r _ _ h)) in
-      record { fair = two_parts.fair; named = two_parts.named; places = two_parts.places; meets = (two_parts.meets.0.0, two_parts.meets.0.1, two_parts.meets.1) }
+      record { fair = two_parts.fair; named = two_parts.named; places = two_parts.places; meets = (two_parts.meets.0.0, two_parts.meets.0.1, two_parts.meets.1); locals = two_parts.locals }
   of_statement r w around scope scene is (tree.while s e a) d h = joined (there (of_test r scope scene e (left r _ _ h))) (of_statement r w (looping (opened around scope.names)) scope scene is a d (right r _ _ h))
   of_statement r w around scope scene is (tree.for s x a) d h =
       let d1 = front _ (first_locals x.first) (locals_in a) d in
@@ -199,7 +212,7 @@ mutual
   of_statement r w around scope scene is (tree.jump s j) d h = nothing_stated (well r around.in_loop s.first.token BadForm h)
 
   of_statements : (r : Resolution) (w : WrittenType) (around : Around) (scope : Scope) → IsScene r scope → around.result ≡ declared_kind w → (all : Statements) → AreDeclared r (locals_in_all all) → Held r (notes_in_all around scope all)
-      → Stated r (AllMeet r w around.in_loop all) (statements_transfers r w all) (types_in_statements all) (places_in_all around scope all)
+      → Stated r (AllMeet r w around.in_loop all) (statements_transfers r w all) (types_in_statements all) (places_in_all around scope all) (locals_in_all all)
   of_statements r w around scope scene is no_statements d h = nothing_stated tt
   of_statements r w around scope scene is (statement a rest) d h =
       let d1 = front _ (locals_in a) (locals_in_all rest) d in
@@ -207,7 +220,7 @@ mutual
       (of_statements r w around (with_names scope (after around scope.names a)) (after_scene r around scope scene a d1 (left r _ _ h)) is rest (back _ (locals_in a) (locals_in_all rest) d) (right r _ _ h))
 
 pub of_function : (r : Resolution) (file : Scope) → IsScene r file → (f : Function) → AreDeclared r (declarations_of (tree.function f)) → Held r (function_notes file f)
-    → Stated r (MeetsRules r f) (function_transfers r f) (types_in_statements f.statements) (places_of file f)
+    → Stated r (MeetsRules r f) (function_transfers r f) (types_in_statements f.statements) (places_of file f) (locals_in_all f.statements)
 of_function r file scene f d h =
     of_statements r f.result (record { result = declared_kind f.result; in_loop = false; block = length file.names }) (in_body file f) (body_scene r file scene f (front _ f.parameters (locals_in_all f.statements) d) h) refl f.statements
     (back _ f.parameters (locals_in_all f.statements) d) (right r _ _ (left r _ _ h))
@@ -247,3 +260,42 @@ items_places r file scene (tree.global g ∷ rest) d h = items_places r file sce
 items_places r file scene (tree.function f ∷ rest) d h =
     both (JudgedAt r) (places_of file f) (places_of_all file (functions_in rest)) (of_function r file scene f (front _ (declarations_of (tree.function f)) (declarations_in rest) d) (left r _ _ h)).places
     (items_places r file scene rest (back _ (declarations_of (tree.function f)) (declarations_in rest) d) (right r _ _ h))
+
+pub plain_function : (r : Resolution) (file : Scope) → IsScene r file → (f : Function) → AreDeclared r (declarations_of (tree.function f)) → Held r (function_notes file f) → IsPlain f
+plain_function r file scene f d h = (
+  both Plain f.parameters (locals_in_all f.statements) (plain_parameters r (length file.names) 0 file f.parameters (right r _ _ (left r _ _ (left r _ _ h))))
+      (each (IsLocal r) Plain (λ d own. own.1) (locals_in_all f.statements) (of_function r file scene f d h).locals),
+  plain_type r file [] Role.Result f.result refl refl (left r _ _ (left r _ _ (left r _ _ h))),
+)
+
+-- each declaration is named by its name
+
+record AreItemsNamed (r : Resolution) (rest : List Item) : Type 0 where
+  fields : AllByRecursion (λ s. AllByRecursion (IsItself r Named.Field) s.fields) (structs_in rest)
+  variables : AllByRecursion (λ f. AllByRecursion (IsItself r Named.Variable) (f.parameters ++ locals_in_all f.statements)) (functions_in rest)
+
+items_named : (r : Resolution) (file : Scope) → IsScene r file → (rest : List Item) → AreDeclared r (declarations_in rest) → Held r (items_notes file rest) → AreItemsNamed r rest
+items_named r file scene [] d h = record { fields = tt; variables = tt }
+items_named r file scene (tree.structure s ∷ rest) d h =
+    let later = items_named r file scene rest (back _ s.fields (declarations_in rest) d) (right r (item_notes file (tree.structure s)) (items_notes file rest) h) in
+    record { fields = (all_themselves r Named.Field s.fields (own_fields r file s.fields [] s.fields (left r (item_notes file (tree.structure s)) (items_notes file rest) h)) (front _ s.fields (declarations_in rest) d), later.fields); variables = later.variables }
+items_named r file scene (tree.global g ∷ rest) d h =
+    let later = items_named r file scene rest d (right r (item_notes file (tree.global g)) (items_notes file rest) h) in
+    record { fields = later.fields; variables = later.variables }
+items_named r file scene (tree.function f ∷ rest) d h =
+    let later = items_named r file scene rest (back _ (declarations_of (tree.function f)) (declarations_in rest) d) (right r (function_notes file f) (items_notes file rest) h) in
+    let n = left r (function_notes file f) (items_notes file rest) h in
+    let own = both (Own r Named.Variable) f.parameters (locals_in_all f.statements) (own_parameters r (length file.names) 0 file f.parameters (right r _ _ (left r _ _ (left r _ _ n)))) (each (IsLocal r) (Own r Named.Variable) (λ d own. own.0) (locals_in_all f.statements) (of_function r file scene f (front _ (declarations_of (tree.function f)) (declarations_in rest) d) n).locals) in
+    record { fields = later.fields; variables = (all_themselves r Named.Variable (f.parameters ++ locals_in_all f.statements) own (front _ (declarations_of (tree.function f)) (declarations_in rest) d), later.variables) }
+
+pub themselves : (r : Resolution) (h : Heads) (file : Scope) → h.structs ≡ 0 → h.globals ≡ 0 → h.functions ≡ 0 → IsScene r file → AreDeclared r (declarations_in r.program.items) → Held r (heads_notes h r.program.items) → Held r (items_notes file r.program.items) → NameThemselves r
+themselves r h file s g f scene d n m =
+    let heads = heads_named r h r.program.items n in
+    let items = items_named r file scene r.program.items d m in
+    record {
+      structs = from_none (StructNamed r) (structs_in r.program.items) (subst (λ k. AreNumbered (StructNamed r) k (structs_in r.program.items)) s heads.structs);
+      globals = from_none (GlobalNamed r) (globals_in r.program.items) (subst (λ k. AreNumbered (GlobalNamed r) k (globals_in r.program.items)) g heads.globals);
+      functions = from_none (FunctionNamed r) (functions_in r.program.items) (subst (λ k. AreNumbered (FunctionNamed r) k (functions_in r.program.items)) f heads.functions);
+      fields = items.fields;
+      variables = items.variables;
+    }
