@@ -160,7 +160,7 @@ of_local : (r : Resolution) (around : Around) (scope : Scope) → IsScene r scop
 of_local r around scope scene l d h =
     let inner : Scope = with_names scope (declared around.block l.declaration scope.names) in
     let initial = of_initial r inner (local_scene r around scope scene l d.0 h) l.declaration l.initial (type_fine r scope [] Role.Local l.declaration.written (left r _ _ (left r _ _ h)))
-        (type_solid r scope [] Role.Local l.declaration.written refl (left r _ _ (left r _ _ h))) (right r _ _ h) in
+    (type_solid r scope [] Role.Local l.declaration.written refl (left r _ _ (left r _ _ h))) (right r _ _ h) in
     record {
       fair = initial.told.fair;
       named = (type_named r scope scene [] tt Role.Local l.declaration.written (left r _ _ (left r _ _ h)), initial.told.named);
