@@ -1,5 +1,5 @@
 -- A cast that is suggested is among what has a type once.
-use Rattle.sharc_suggest_laws.proofs.{Imports.{◌≡◌, ℕ, ◌+◌, ◌<◌, ◌≤◌, ◌==◌, true, inl, inr, List, [], ◌∷◌, refl, ap, sym, ◌∙◌, ap₂, length, eqb-true, eq-eqb, Some, arith, and_parts, and_from, Span, span_of, Expression, Recast, is_there, recast_of, program_with, IsAddedOnce, SuggestedIsAddedOnce, count_of, met_by, met_in_items, Entity, entities_in, Cast, ModeError, Assignment, IsSuggested}, Few.{Test, AtMostOnce, begins_once}, Grown.{Grown, grown_items}, Counted.{counted, counted_append, in_items as items_counted}, Site.{HasSite, has_site}}
+use Rattle.sharc_suggest_laws.proofs.{Imports.{◌≡◌, ℕ, ◌+◌, ◌<◌, ◌≤◌, ◌==◌, true, inl, inr, List, [], ◌∷◌, refl, ap, sym, ◌∙◌, ap₂, length, eqb-true, eq-eqb, Some, arith, and_parts, and_from, Span, span_of, Expression, Recast, is_there, recast_of, program_with, IsAddedOnce, SuggestedIsAddedOnce, count_of, met_by, met_in_items, Entity, entities_in, Cast, ModeError, Assignment, IsSuggested}, Few.{Test, AtMostOnce}, Spread.{begins_once, grown_items}, Grown.Grown, Counted.{counted, counted_append}, Beside.items_counted, Site.{HasSite, has_site}}
 
 none_added : (c : Recast) (n from until : ℕ) (old new : List Entity) → n ≡ 0 → Grown c n from until old new → new ≡ old
 none_added c n from until old [] zero_many grown = sym grown.0
@@ -76,7 +76,7 @@ suggested_there m e c says =
     let last : s.last.token ≡ c.until = ap (λ (x : Cast). x.until) site.for.is in
     let here : met_by (is_there r) site.for.giving.given ≡ 1 = ap count_of (and_from (s.first.token == c.from) (s.last.token == c.until) (eq-eqb s.first.token c.from first) (eq-eqb s.last.token c.until last)) in
     let many : met_in_items (is_there r) m.typed.program.items ≡ counted (is_there r) site.for.before + counted (is_there r) (site.for.giving ∷ site.for.behind) =
-    items_counted (is_there r) m.typed.program.items ∙ ap (counted (is_there r)) site.for.split ∙ counted_append (is_there r) site.for.before (site.for.giving ∷ site.for.behind) in
+    items_counted m (is_there r) m.typed.program.items ∙ ap (counted (is_there r)) site.for.split ∙ counted_append (is_there r) site.for.before (site.for.giving ∷ site.for.behind) in
     let rest : counted (is_there r) (site.for.giving ∷ site.for.behind) ≡ met_by (is_there r) site.for.giving.given + counted (is_there r) site.for.behind = refl in
     omega (arith, here, many, rest)
 

@@ -1,15 +1,12 @@
 -- What is given is in the body of a function, after its name and its parameters.
-use Rattle.sharc_suggest_laws.proofs.{Imports.{◌≡◌, inl, inr, ℕ, ◌+◌, ◌<◌, ◌≤◌, List, [], ◌∷◌, refl, ap, eqb-true, eq-eqb, arith, AllByRecursion, Token, Declaration, Follow, declaration_spans, PlacedDeclarations, PlacedItem, span_of, Function, function, Giving, count_of, met_by, met_in_statements, begins_at, each}, Counted.counted, Few.{Test, AtMostOnce, few_statements}, Follows.split}
-
-abbrev pub at_token : ℕ → Test
-at_token t = record { token = t; test = begins_at t; begins = λ e is. eqb-true (span_of e).first.token t is }
+use Rattle.sharc_suggest_laws.proofs.{Imports.{◌≡◌, inl, inr, ℕ, ◌+◌, ◌<◌, ◌≤◌, List, [], ◌∷◌, refl, ap, eq-eqb, arith, AllByRecursion, Token, Declaration, Follow, declaration_spans, PlacedDeclarations, PlacedItem, span_of, Function, function, Giving, count_of, met_by, met_in_statements, begins_at, each}, Counted.counted, Few.{AtMostOnce, at_token}, Spread.of_statements, Follows.split}
 
 -- ---- what begins in a body
 
 pub body_bounds : (all : List Token) (f : Function) → PlacedItem all (function f) → (t : ℕ) → 0 < met_in_statements (begins_at t) f.statements → (f.body.first.token ≤ t) × (t ≤ f.body.last.token)
 body_bounds all f placed t some =
     let order : f.body.first.token ≤ f.body.last.token = placed.4.0.order in
-    by (few_statements all (at_token t) f.statements placed.5 f.body.first.token (f.body.last.token + 1) (omega (arith, order)) placed.4.1)
+    by ((of_statements all f.statements placed.5).few (at_token t) f.body.first.token (f.body.last.token + 1) (omega (arith, order)) placed.4.1)
   where
     by : AtMostOnce (at_token t) f.body.first.token (f.body.last.token + 1) (met_in_statements (begins_at t) f.statements) → (f.body.first.token ≤ t) × (t ≤ f.body.last.token)
     by (inl none) = let zero_many : met_in_statements (begins_at t) f.statements ≡ 0 = none in absurd (omega (arith, some, zero_many))

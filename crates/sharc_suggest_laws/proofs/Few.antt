@@ -1,5 +1,5 @@
 -- In a program at its tokens one value at most begins at a token: no other part begins there, and no value inside of it does.
-use Rattle.sharc_suggest_laws.proofs.{Imports.{◌≡◌, ℕ, ◌+◌, ◌<◌, ◌≤◌, Bool, true, false, ◌⊎◌, inl, inr, List, [], ◌∷◌, ◌++◌, Option, Some, None, IfSome, length, refl, eqb-true, arith, Span, Token, Follow, point, option_spans, argument_spans, first_spans, head_spans, statement_spans, declaration_spans, item_spans, Placed, AllPlaced, PlacedRight, PlacedSimple, PlacedLocal, PlacedFirst, PlacedHead, PlacedStatement, PlacedStatements, PlacedItem, PlacedItems, span_of, span_of_right, span_of_simple, span_of_statement, span_of_item, Expression, constant, parentheses, call, spawn, on_value, on_place, cast, index, field, unary, binary, Arguments, no_arguments, argument, Right, value, malloc, Simple, assign, does_call, Local, First, nothing, declares, does, Head, Statement, Statements, no_statements, statement, Function, Item, structure, global, function, count_of, met_inside, met_inside_all, met_at, of_option, met_in_right, met_in_simple, met_in_local, met_in_first, met_in_head, met_in_statement, met_in_statements, met_in_item, met_in_items, begins_at, ValuesBeginApart}, Follows.split}
+use Rattle.sharc_suggest_laws.proofs.{Imports.{◌≡◌, ℕ, ◌+◌, ◌<◌, ◌≤◌, Bool, true, false, ◌⊎◌, inl, inr, List, [], ◌∷◌, ◌++◌, refl, eqb-true, arith, Span, Token, Follow, argument_spans, Placed, AllPlaced, span_of, Expression, constant, parentheses, call, spawn, on_value, on_place, cast, index, field, unary, binary, Arguments, no_arguments, argument, count_of, met_inside, met_inside_all, met_at, begins_at}, Follows.split}
 use Rattle.sharc_tree.specs.Placed.{IsWhole}
 use Rattle.sharc_tree.specs.Tree as tree
 
@@ -8,6 +8,10 @@ pub record Test : Type 0 where
   pub token : ℕ
   pub test : Expression → Bool
   pub begins : (e : Expression) → test e ≡ true → (span_of e).first.token ≡ token
+
+-- that begins at this token
+abbrev pub at_token : ℕ → Test
+at_token t = record { token = t; test = begins_at t; begins = λ e is. eqb-true (span_of e).first.token t is }
 
 -- never, or once, and then it begins at a token from this one on, below that one
 abbrev pub AtMostOnce : Test → ℕ → ℕ → ℕ → Type 0
@@ -55,14 +59,14 @@ few_both all c xs ys n k left right from until le follow =
     side_by_side c from w.0 until n k (left from w.0 w.1 w.3) (right w.0 until w.2 w.4) w.1 w.2
 
 -- a whole has what its parts have
-whole : (all : List Token) (c : Test) (s : Span) (parts : List Span) (n : ℕ) → IsWhole all s parts → Few all c parts n → Few all c (s ∷ []) n
+pub whole : (all : List Token) (c : Test) (s : Span) (parts : List Span) (n : ℕ) → IsWhole all s parts → Few all c parts n → Few all c (s ∷ []) n
 whole all c s parts n placed few from until le follow =
     let order : s.first.token ≤ s.last.token = placed.0.order in
     let begins : from ≤ s.first.token = follow.1 in
     let ends : s.last.token < until = follow.2 in
     wider c s.first.token (s.last.token + 1) from until n (few s.first.token (s.last.token + 1) (omega (arith, order)) placed.1) begins (omega (arith, ends))
 
-none : (all : List Token) (c : Test) (spans : List Span) → Few all c spans 0
+pub none : (all : List Token) (c : Test) (spans : List Span) → Few all c spans 0
 none all c spans from until le follow = inl refl
 
 -- ---- in an expression: after its first token
@@ -177,115 +181,20 @@ few_in all c e placed = inside_few all c (span_of e) (met_inside c.test e) (insi
 pub few_value : (all : List Token) (c : Test) (e : Expression) → Placed all e → Few all c (span_of e ∷ []) (met_at c.test e)
 few_value all c e placed = value_few all c e placed (inside all c e placed)
 
-pub few_option : (all : List Token) (c : Test) (e : Option Expression) → IfSome e (Placed all) → Few all c (option_spans span_of e) (of_option (met_inside c.test) e)
-few_option all c None placed = none all c []
-few_option all c (Some e) placed = few_in all c e placed
-
-pub few_returned : (all : List Token) (c : Test) (e : Option Expression) → IfSome e (Placed all) → Few all c (option_spans span_of e) (of_option (met_at c.test) e)
-few_returned all c None placed = none all c []
-few_returned all c (Some e) placed = few_value all c e placed
-
 -- none after the rest
-alone : (all : List Token) (c : Test) (xs ys : List Span) (n : ℕ) → Few all c xs n → Few all c (xs ++ ys) n
+pub alone : (all : List Token) (c : Test) (xs ys : List Span) (n : ℕ) → Few all c xs n → Few all c (xs ++ ys) n
 alone all c xs ys n few from until le follow =
     let w = split all from until xs ys le follow in
     let low : from ≤ from = omega arith in
     wider c from w.0 from until n (few from w.0 w.1 w.3) low w.2
 
-pub few_right : (all : List Token) (c : Test) (r : Right) → PlacedRight all r → Few all c (span_of_right r ∷ []) (met_in_right c.test r)
-few_right all c (value e) placed = few_value all c e placed
-few_right all c (malloc s n t) placed =
-    whole all c s (option_spans span_of n ++ (t.span ∷ [])) (of_option (met_inside c.test) n) placed.0 (alone all c (option_spans span_of n) (t.span ∷ []) (of_option (met_inside c.test) n) (few_option all c n placed.1))
-
-pub few_simple : (all : List Token) (c : Test) (x : Simple) → PlacedSimple all x → Few all c (span_of_simple x ∷ []) (met_in_simple c.test x)
-few_simple all c (assign s u r) placed =
-    whole all c s (span_of u ∷ (span_of_right r ∷ [])) (met_inside c.test u + met_in_right c.test r) placed.0
-    (few_both all c (span_of u ∷ []) (span_of_right r ∷ []) (met_inside c.test u) (met_in_right c.test r) (few_in all c u placed.1) (few_right all c r placed.2))
-few_simple all c (does_call e) placed = few_in all c e placed
-
-pub few_step : (all : List Token) (c : Test) (x : Option Simple) → IfSome x (PlacedSimple all) → Few all c (option_spans span_of_simple x) (of_option (met_in_simple c.test) x)
-few_step all c None placed = none all c []
-few_step all c (Some x) placed = few_simple all c x placed
-
-pub few_initial : (all : List Token) (c : Test) (x : Option Right) → IfSome x (PlacedRight all) → Few all c (option_spans span_of_right x) (of_option (met_in_right c.test) x)
-few_initial all c None placed = none all c []
-few_initial all c (Some r) placed = few_right all c r placed
-
 -- after a span that has none
-behind_span : (all : List Token) (c : Test) (s : Span) (ys : List Span) (n : ℕ) → Few all c ys n → Few all c (s ∷ ys) n
+pub behind_span : (all : List Token) (c : Test) (s : Span) (ys : List Span) (n : ℕ) → Few all c ys n → Few all c (s ∷ ys) n
 behind_span all c s ys n few from until le follow =
     let order : s.first.token ≤ s.last.token = follow.0.order in
     let begins : from ≤ s.first.token = follow.1 in
     let ends : s.last.token < until = follow.2 in
     wider c (s.last.token + 1) until from until n (few (s.last.token + 1) until (omega (arith, ends)) follow.3) (omega (arith, order, begins)) (omega arith)
-
-pub few_local : (all : List Token) (c : Test) (l : Local) → PlacedLocal all l → Few all c (l.span ∷ []) (met_in_local c.test l)
-few_local all c l placed =
-    whole all c l.span (l.declaration.span ∷ option_spans span_of_right l.initial) (met_in_local c.test l) placed.0
-    (behind_span all c l.declaration.span (option_spans span_of_right l.initial) (met_in_local c.test l) (few_initial all c l.initial placed.2))
-
-pub few_first : (all : List Token) (c : Test) (f : First) → PlacedFirst all f → Few all c (first_spans f) (met_in_first c.test f)
-few_first all c nothing placed = none all c []
-few_first all c (declares l) placed = few_local all c l placed
-few_first all c (does x) placed = few_simple all c x placed
-
-pub few_head : (all : List Token) (c : Test) (h : Head) → PlacedHead all h → Few all c (head_spans h) (met_in_head c.test h)
-few_head all c h placed =
-    few_both all c (first_spans h.first ++ option_spans span_of h.test) (option_spans span_of_simple h.step) (met_in_first c.test h.first + of_option (met_inside c.test) h.test) (of_option (met_in_simple c.test) h.step)
-    (few_both all c (first_spans h.first) (option_spans span_of h.test) (met_in_first c.test h.first) (of_option (met_inside c.test) h.test) (few_first all c h.first placed.0) (few_option all c h.test placed.1))
-    (few_step all c h.step placed.2)
-
-mutual
-  pub few_statement : (all : List Token) (c : Test) (s : Statement) → PlacedStatement all s → Few all c (span_of_statement s ∷ []) (met_in_statement c.test s)
-  few_statement all c (tree.empty s) placed = none all c (s ∷ [])
-  few_statement all c (tree.block s inner) placed = whole all c s (statement_spans inner) (met_in_statements c.test inner) placed.0 (few_statements all c inner placed.1)
-  few_statement all c (tree.declare s l) placed = whole all c s (l.span ∷ []) (met_in_local c.test l) placed.0 (few_local all c l placed.1)
-  few_statement all c (tree.simple s x) placed = whole all c s (span_of_simple x ∷ []) (met_in_simple c.test x) placed.0 (few_simple all c x placed.1)
-  few_statement all c (tree.jump s j) placed = none all c (s ∷ [])
-  few_statement all c (tree.return s e) placed = whole all c s (option_spans span_of e) (of_option (met_at c.test) e) placed.0 (few_returned all c e placed.1)
-  few_statement all c (tree.if_then s e a) placed =
-      whole all c s (span_of e ∷ (span_of_statement a ∷ [])) (met_inside c.test e + met_in_statement c.test a) placed.0
-      (few_both all c (span_of e ∷ []) (span_of_statement a ∷ []) (met_inside c.test e) (met_in_statement c.test a) (few_in all c e placed.1) (few_statement all c a placed.2))
-  few_statement all c (tree.if_then_else s e a b) placed =
-      whole all c s (span_of e ∷ (span_of_statement a ∷ (span_of_statement b ∷ []))) (met_inside c.test e + met_in_statement c.test a + met_in_statement c.test b) placed.0
-      (few_both all c (span_of e ∷ (span_of_statement a ∷ [])) (span_of_statement b ∷ []) (met_inside c.test e + met_in_statement c.test a) (met_in_statement c.test b)
-      (few_both all c (span_of e ∷ []) (span_of_statement a ∷ []) (met_inside c.test e) (met_in_statement c.test a) (few_in all c e placed.1) (few_statement all c a placed.2)) (few_statement all c b placed.3))
-  few_statement all c (tree.while s e a) placed =
-      whole all c s (span_of e ∷ (span_of_statement a ∷ [])) (met_inside c.test e + met_in_statement c.test a) placed.0
-      (few_both all c (span_of e ∷ []) (span_of_statement a ∷ []) (met_inside c.test e) (met_in_statement c.test a) (few_in all c e placed.1) (few_statement all c a placed.2))
-  few_statement all c (tree.for s h a) placed =
-      whole all c s (head_spans h ++ (span_of_statement a ∷ [])) (met_in_head c.test h + met_in_statement c.test a) placed.0
-      (few_both all c (head_spans h) (span_of_statement a ∷ []) (met_in_head c.test h) (met_in_statement c.test a) (few_head all c h placed.1) (few_statement all c a placed.2))
-
-  pub few_statements : (all : List Token) (c : Test) (inner : Statements) → PlacedStatements all inner → Few all c (statement_spans inner) (met_in_statements c.test inner)
-  few_statements all c no_statements placed = none all c []
-  few_statements all c (statement a rest) placed =
-      few_both all c (span_of_statement a ∷ []) (statement_spans rest) (met_in_statement c.test a) (met_in_statements c.test rest) (few_statement all c a placed.0) (few_statements all c rest placed.1)
-
--- after other spans
-behind_spans : (all : List Token) (c : Test) (xs ys : List Span) (n : ℕ) → Few all c ys n → Few all c (xs ++ ys) n
-behind_spans all c [] ys n few = few
-behind_spans all c (s ∷ xs) ys n few = behind_span all c s (xs ++ ys) n (behind_spans all c xs ys n few)
-
-pub few_function : (all : List Token) (c : Test) (f : Function) → PlacedItem all (function f) → Few all c (f.span ∷ []) (met_in_statements c.test f.statements)
-few_function all c f placed =
-    let inner : Few all c (f.body ∷ []) (met_in_statements c.test f.statements) = whole all c f.body (statement_spans f.statements) (met_in_statements c.test f.statements) placed.4 (few_statements all c f.statements placed.5) in
-    let n : ℕ = met_in_statements c.test f.statements in
-    whole all c f.span (f.result.span ∷ (point f.name.site ∷ (declaration_spans f.parameters ++ (f.body ∷ [])))) n placed.0
-    (behind_span all c f.result.span (point f.name.site ∷ (declaration_spans f.parameters ++ (f.body ∷ []))) n
-    (behind_span all c (point f.name.site) (declaration_spans f.parameters ++ (f.body ∷ [])) n (behind_spans all c (declaration_spans f.parameters) (f.body ∷ []) n inner)))
-
-pub few_item : (all : List Token) (c : Test) (i : Item) → PlacedItem all i → Few all c (span_of_item i ∷ []) (met_in_item c.test i)
-few_item all c (structure s) placed = none all c (s.span ∷ [])
-few_item all c (global g) placed = none all c (g.span ∷ [])
-few_item all c (function f) placed = few_function all c f placed
-
-pub few_items : (all : List Token) (c : Test) (items : List Item) → PlacedItems all items → Few all c (item_spans items) (met_in_items c.test items)
-few_items all c [] placed = none all c []
-few_items all c (i ∷ rest) placed = few_both all c (span_of_item i ∷ []) (item_spans rest) (met_in_item c.test i) (met_in_items c.test rest) (few_item all c i placed.0) (few_items all c rest placed.1)
-
-pub begins_once : (all : List Token) (c : Test) (items : List Item) (until : ℕ) → Follow all 0 until (item_spans items) → PlacedItems all items → AtMostOnce c 0 until (met_in_items c.test items)
-begins_once all c items until follow placed = few_items all c items placed 0 until (omega arith) follow
 
 pub at_most_one : (c : Test) (from until n : ℕ) → AtMostOnce c from until n → n ≤ 1
 at_most_one c from until n (inl none) =
@@ -294,8 +203,3 @@ at_most_one c from until n (inl none) =
 at_most_one c from until n (inr w) =
     let one : n ≡ 1 = w.0 in
     omega (arith, one)
-
-pub values_begin_apart : ValuesBeginApart
-values_begin_apart p placed token =
-    let c : Test = record { token = token; test = begins_at token; begins = λ e is. eqb-true (span_of e).first.token token is } in
-    at_most_one c 0 (length p.tokens.list) (met_in_items (begins_at token) p.items) (begins_once p.tokens.list c p.items (length p.tokens.list) placed.follow placed.items)

@@ -1,5 +1,5 @@
 -- The mismatch is gone where the same is expected of the cast as was of what was there.
-use Rattle.sharc_suggest_laws.proofs.{Imports.{IsSuggested, cast_to, Giving, items_givings, wanted, ◌≡◌, ℕ, ◌+◌, ◌≤◌, ◌==◌, ◌&&◌, Bool, true, false, cond, List, [], ◌∷◌, ◌++◌, length, Some, refl, ap, subst, ◌∙◌, eq-eqb, arith, and_from, cond-true, map-append, filter, Span, WrittenType, IsPlaced, span_of, Expression, cast, Recast, type_at, is_there, around, with_cast, recast_of, assignment_with, IsCastAt, giving_with, receiver_with, IsGone, IsExpectedAgain, GoneWhereExpected, is_mismatch_at, count_of, met_by, met_in_items, begins_at, Cast, ModeError, Finding, Assignment, IsWhole, agree_notes, Sharing}, Agreed.{told_of, told_in, told_append, in_program}, Counted.{counted, counted_append, in_items as items_counted}, Expected.agrees, Few.values_begin_apart, Grown.span_same, Mismatches.{at_value, told_at, told_all}, Quiet.ones, Site.{HasSite, has_site}, Stands.suggested_stands, Rewritten.{givings_with, in_items as items_written}}
+use Rattle.sharc_suggest_laws.proofs.{Imports.{IsSuggested, cast_to, Giving, items_givings, wanted, ◌≡◌, ℕ, ◌+◌, ◌≤◌, ◌==◌, ◌&&◌, Bool, true, false, cond, List, [], ◌∷◌, ◌++◌, length, Some, refl, ap, subst, ◌∙◌, eq-eqb, arith, and_from, cond-true, map-append, filter, Span, WrittenType, IsPlaced, span_of, Expression, cast, Recast, type_at, is_there, around, with_cast, recast_of, assignment_with, IsCastAt, giving_with, receiver_with, IsGone, IsExpectedAgain, GoneWhereExpected, is_mismatch_at, count_of, met_by, met_in_items, begins_at, Cast, ModeError, Finding, Assignment, IsWhole, agree_notes, Sharing}, Agreed.{told_of, told_in, told_append}, Beside.{in_program, items_counted}, Counted.{counted, counted_append}, Expected.agrees, Spread.values_begin_apart, Grown.span_same, Mismatches.{at_value, told_at, told_all}, Quiet.ones, Site.{HasSite, has_site}, Stands.suggested_stands, Rewritten.{givings_with, in_items as items_written}}
 use Rattle.sharc_mode.specs.WellModed.{notes_about}
 
 around_by : (c : Recast) (e : Expression) (b : Bool) → span_of (cond b (cast (span_of e) (type_at c (span_of e)) e) e) ≡ span_of e
@@ -77,7 +77,7 @@ gone_by m e c placed before behind g split begins quiet errors says =
     let now : Assignment = assignment_with c m in
     let r : Recast = recast_of m.typed c in
     let few : met_in_items (begins_at t) m.typed.program.items ≤ 1 = values_begin_apart m.typed.program placed t in
-    let many : met_in_items (begins_at t) m.typed.program.items ≡ counted (begins_at t) (before ++ g ∷ behind) = items_counted (begins_at t) m.typed.program.items ∙ ap (counted (begins_at t)) split in
+    let many : met_in_items (begins_at t) m.typed.program.items ≡ counted (begins_at t) (before ++ g ∷ behind) = items_counted m (begins_at t) m.typed.program.items ∙ ap (counted (begins_at t)) split in
     let low : counted (begins_at t) (before ++ g ∷ behind) ≤ 1 = omega (arith, few, many) in
     let notes : List Finding = notes_about now says.touched in
     let told : told_at t errors ≡ ones t notes = ap (told_at t) says.are ∙ told_all t now.typed notes notes in

@@ -1,5 +1,5 @@
 -- What has a type in a program at its tokens with a cast written in it: what had one before, in its order, and that many times the cast, which is after all that begins before it.
-use Rattle.sharc_suggest_laws.proofs.{Imports.{◌≡◌, ℕ, ◌+◌, ◌<◌, ◌≤◌, ◌==◌, Bool, true, false, ◌&&◌, ◌⊎◌, inl, inr, List, [], ◌∷◌, ◌++◌, map, refl, ap, sym, subst, subst₂, Option, Some, None, IfSome, option_map, if◌then◌else◌, eqb-true, arith, and_parts, Span, Token, Declaration, expressions, in_arguments, in_option, in_right, in_simple, in_local, Follow, point, option_spans, argument_spans, first_spans, head_spans, statement_spans, declaration_spans, form_spans, item_spans, PlacedDeclaration, PlacedDeclarations, Placed, AllPlaced, PlacedRight, PlacedSimple, PlacedLocal, PlacedFirst, PlacedHead, PlacedStatement, PlacedStatements, PlacedItem, PlacedItems, span_of, span_of_right, span_of_simple, span_of_statement, span_of_item, Expression, identifier, constant, parentheses, call, spawn, on_value, on_place, cast, index, field, unary, binary, Arguments, no_arguments, argument, Right, value, malloc, Simple, assign, does_call, Local, First, nothing, declares, does, Head, Statement, Statements, no_statements, statement, Function, Item, structure, global, function, Role, Recast, type_at, is_there, around, with_cast, all_with_cast, right_with_cast, simple_with_cast, local_with_cast, first_with_cast, head_with_cast, statement_with_cast, statements_with_cast, item_with_cast, count_of, met_by, met_inside, met_inside_all, met_at, of_option, met_in_right, met_in_simple, met_in_local, met_in_first, met_in_head, met_in_statement, met_in_statements, met_in_item, met_in_items, Entity, declared, casts, cast_entity, result_of, local_entities, first_entities, head_entities, statement_entities, statements_entities, item_entities, entities_in}, Follows.split}
+use Rattle.sharc_suggest_laws.proofs.{Imports.{◌≡◌, ℕ, ◌+◌, ◌<◌, ◌≤◌, ◌==◌, Bool, true, false, ◌&&◌, ◌⊎◌, inl, inr, List, [], ◌∷◌, ◌++◌, map, refl, ap, sym, subst, subst₂, if◌then◌else◌, eqb-true, arith, and_parts, Span, Token, Declaration, expressions, in_arguments, Follow, point, argument_spans, declaration_spans, PlacedDeclaration, PlacedDeclarations, Placed, AllPlaced, span_of, Expression, identifier, constant, parentheses, call, spawn, on_value, on_place, cast, index, field, unary, binary, Arguments, no_arguments, argument, Role, Recast, type_at, is_there, around, with_cast, all_with_cast, count_of, met_by, met_inside, met_inside_all, met_at, Entity, declared, casts, cast_entity}, Follows.split}
 use Rattle.sharc_tree.specs.Placed.{IsWhole}
 use Rattle.sharc_tree.specs.Tree as tree
 
@@ -43,26 +43,26 @@ both c n k from mid until old (e ∷ new) old' new' le ge (inr w) after =
 
 -- ---- in spans that follow one another
 
-abbrev Grows : List Token → Recast → List Span → ℕ → List Entity → List Entity → Type 0
+abbrev pub Grows : List Token → Recast → List Span → ℕ → List Entity → List Entity → Type 0
 Grows all c spans n old new = (from until : ℕ) → from ≤ until → Follow all from until spans → Grown c n from until old new
 
-joined : (all : List Token) (c : Recast) (xs ys : List Span) (n k : ℕ) (old new old' new' : List Entity) → Grows all c xs n old new → Grows all c ys k old' new' → Grows all c (xs ++ ys) (n + k) (old ++ old') (new ++ new')
+pub joined : (all : List Token) (c : Recast) (xs ys : List Span) (n k : ℕ) (old new old' new' : List Entity) → Grows all c xs n old new → Grows all c ys k old' new' → Grows all c (xs ++ ys) (n + k) (old ++ old') (new ++ new')
 joined all c xs ys n k old new old' new' left right from until le follow =
     let w = split all from until xs ys le follow in
     both c n k from w.0 until old new old' new' w.1 w.2 (left from w.0 w.1 w.3) (right w.0 until w.2 w.4)
 
-whole : (all : List Token) (c : Recast) (s : Span) (parts : List Span) (n : ℕ) (old new : List Entity) → IsWhole all s parts → Grows all c parts n old new → Grows all c (s ∷ []) n old new
+pub whole : (all : List Token) (c : Recast) (s : Span) (parts : List Span) (n : ℕ) (old new : List Entity) → IsWhole all s parts → Grows all c parts n old new → Grows all c (s ∷ []) n old new
 whole all c s parts n old new placed inner from until le follow =
     let order : s.first.token ≤ s.last.token = placed.0.order in
     let begins : from ≤ s.first.token = follow.1 in
     let ends : s.last.token < until = follow.2 in
     wider c n s.first.token (s.last.token + 1) from until old new begins (omega (arith, ends)) (inner s.first.token (s.last.token + 1) (omega (arith, order)) placed.1)
 
-none : (all : List Token) (c : Recast) (spans : List Span) → Grows all c spans 0 [] []
+pub none : (all : List Token) (c : Recast) (spans : List Span) → Grows all c spans 0 [] []
 none all c spans from until le follow = (refl, refl)
 
 -- after a span that has none
-behind_span : (all : List Token) (c : Recast) (s : Span) (ys : List Span) (n : ℕ) (old new : List Entity) → Grows all c ys n old new → Grows all c (s ∷ ys) n old new
+pub behind_span : (all : List Token) (c : Recast) (s : Span) (ys : List Span) (n : ℕ) (old new : List Entity) → Grows all c ys n old new → Grows all c (s ∷ ys) n old new
 behind_span all c s ys n old new inner from until le follow =
     let order : s.first.token ≤ s.last.token = follow.0.order in
     let begins : from ≤ s.first.token = follow.1 in
@@ -70,25 +70,25 @@ behind_span all c s ys n old new inner from until le follow =
     wider c n (s.last.token + 1) until from until old new (omega (arith, order, begins)) (omega arith) (inner (s.last.token + 1) until (omega (arith, ends)) follow.3)
 
 -- before spans that have none
-before_spans : (all : List Token) (c : Recast) (xs ys : List Span) (n : ℕ) (old new : List Entity) → Grows all c xs n old new → Grows all c (xs ++ ys) n old new
+pub before_spans : (all : List Token) (c : Recast) (xs ys : List Span) (n : ℕ) (old new : List Entity) → Grows all c xs n old new → Grows all c (xs ++ ys) n old new
 before_spans all c xs ys n old new inner from until le follow =
     let w = split all from until xs ys le follow in
     let low : from ≤ from = omega arith in
     wider c n from w.0 from until old new low w.2 (inner from w.0 w.1 w.3)
 
-again : (all : List Token) (c : Recast) (spans : List Span) (n k : ℕ) (old new : List Entity) → n ≡ k → Grows all c spans n old new → Grows all c spans k old new
+pub again : (all : List Token) (c : Recast) (spans : List Span) (n k : ℕ) (old new : List Entity) → n ≡ k → Grows all c spans n old new → Grows all c spans k old new
 again all c spans n k old new same inner from until le follow = subst (λ (i : ℕ). Grown c i from until old new) same (inner from until le follow)
 
 -- ---- what is declared
 
 -- what begins in a span
-one_in : (all : List Token) (c : Recast) (s : Span) (e : Entity) → s.first.token ≤ e.token → e.token ≤ s.last.token → Grows all c (s ∷ []) 0 (e ∷ []) (e ∷ [])
+pub one_in : (all : List Token) (c : Recast) (s : Span) (e : Entity) → s.first.token ≤ e.token → e.token ≤ s.last.token → Grows all c (s ∷ []) 0 (e ∷ []) (e ∷ [])
 one_in all c s e low high from until le follow =
     let begins : from ≤ s.first.token = follow.1 in
     let ends : s.last.token < until = follow.2 in
     inl ([], refl, omega (arith, begins, low), omega (arith, ends, high), (refl, refl))
 
-one_declared : (all : List Token) (c : Recast) (what : Role) (d : Declaration) → PlacedDeclaration all d → Grows all c (d.span ∷ []) 0 (declared what d ∷ []) (declared what d ∷ [])
+pub one_declared : (all : List Token) (c : Recast) (what : Role) (d : Declaration) → PlacedDeclaration all d → Grows all c (d.span ∷ []) 0 (declared what d ∷ []) (declared what d ∷ [])
 one_declared all c what d placed =
     let order : d.written.span.first.token ≤ d.written.span.last.token = placed.0.1.0.order in
     let typed : d.span.first.token ≤ d.written.span.first.token = placed.0.1.1 in
@@ -96,7 +96,7 @@ one_declared all c what d placed =
     let within : d.name.site.token < d.span.last.token + 1 = placed.0.1.3.2 in
     one_in all c d.span (declared what d) (omega (arith, order, typed, named)) (omega (arith, within))
 
-all_declared : (all : List Token) (c : Recast) (what : Role) (ds : List Declaration) → PlacedDeclarations all ds → Grows all c (declaration_spans ds) 0 (map (declared what) ds) (map (declared what) ds)
+pub all_declared : (all : List Token) (c : Recast) (what : Role) (ds : List Declaration) → PlacedDeclarations all ds → Grows all c (declaration_spans ds) 0 (map (declared what) ds) (map (declared what) ds)
 all_declared all c what [] placed = none all c []
 all_declared all c what (d ∷ rest) placed =
     let none_more : 0 + 0 ≡ 0 = omega arith in
@@ -114,7 +114,7 @@ casts_append [] ys = refl
 casts_append (cast s t a ∷ rest) ys = ap (λ (all : List Entity). cast_entity s t ∷ all) (casts_append rest ys)
 casts_append (_ ∷ rest) ys = casts_append rest ys
 
-joined_casts : (all : List Token) (c : Recast) (xs ys : List Span) (n k : ℕ) (old new old' new' : List Expression) → GrowCasts all c xs n old new → GrowCasts all c ys k old' new'
+pub joined_casts : (all : List Token) (c : Recast) (xs ys : List Span) (n k : ℕ) (old new old' new' : List Expression) → GrowCasts all c xs n old new → GrowCasts all c ys k old' new'
     → GrowCasts all c (xs ++ ys) (n + k) (old ++ old') (new ++ new')
 joined_casts all c xs ys n k old new old' new' left right from until le follow =
     subst₂ (λ (l m : List Entity). Grown c (n + k) from until l m) (sym (casts_append old old')) (sym (casts_append new new'))
@@ -174,7 +174,7 @@ cast_grows all c s t a n e old new at placed inner from until le follow =
     )
 
 mutual
-  grown_in : (all : List Token) (c : Recast) (e : Expression) → Placed all e → GrowCasts all c (span_of e ∷ []) (met_inside (is_there c) e) (expressions e) (expressions (with_cast c e))
+  pub grown_in : (all : List Token) (c : Recast) (e : Expression) → Placed all e → GrowCasts all c (span_of e ∷ []) (met_inside (is_there c) e) (expressions e) (expressions (with_cast c e))
   grown_in all c (identifier s i) placed = none all c (s ∷ [])
   grown_in all c (constant s k) placed = none all c (s ∷ [])
   grown_in all c (parentheses s a) placed = whole all c s (span_of a ∷ []) (met_inside (is_there c) a) (casts (expressions a)) (casts (expressions (with_cast c a))) placed.0 (grown_in all c a placed.1)
@@ -208,155 +208,5 @@ mutual
       joined_casts all c (span_of a ∷ []) (argument_spans rest) (met_at (is_there c) a) (met_inside_all (is_there c) rest) (expressions a) (expressions (around c (with_cast c a))) (in_arguments rest) (in_arguments (all_with_cast c rest))
       (value_grows all c a (grown_in all c a placed.0)) (grown_in_all all c rest placed.1)
 
-grown_value : (all : List Token) (c : Recast) (e : Expression) → Placed all e → GrowCasts all c (span_of e ∷ []) (met_at (is_there c) e) (expressions e) (expressions (around c (with_cast c e)))
+pub grown_value : (all : List Token) (c : Recast) (e : Expression) → Placed all e → GrowCasts all c (span_of e ∷ []) (met_at (is_there c) e) (expressions e) (expressions (around c (with_cast c e)))
 grown_value all c e placed = value_grows all c e (grown_in all c e placed)
-
-grown_option : (all : List Token) (c : Recast) (e : Option Expression) → IfSome e (Placed all)
-    → GrowCasts all c (option_spans span_of e) (of_option (met_inside (is_there c)) e) (in_option expressions e) (in_option expressions (option_map (with_cast c) e))
-grown_option all c None placed = none all c []
-grown_option all c (Some e) placed = grown_in all c e placed
-
-grown_returned : (all : List Token) (c : Recast) (e : Option Expression) → IfSome e (Placed all)
-    → GrowCasts all c (option_spans span_of e) (of_option (met_at (is_there c)) e) (in_option expressions e) (in_option expressions (option_map (λ a. around c (with_cast c a)) e))
-grown_returned all c None placed = none all c []
-grown_returned all c (Some e) placed = grown_value all c e placed
-
-grown_right : (all : List Token) (c : Recast) (r : Right) → PlacedRight all r → GrowCasts all c (span_of_right r ∷ []) (met_in_right (is_there c) r) (in_right r) (in_right (right_with_cast c r))
-grown_right all c (value e) placed = grown_value all c e placed
-grown_right all c (malloc s n t) placed =
-    whole all c s (option_spans span_of n ++ (t.span ∷ [])) (of_option (met_inside (is_there c)) n) (casts (in_option expressions n)) (casts (in_option expressions (option_map (with_cast c) n))) placed.0
-    (before_spans all c (option_spans span_of n) (t.span ∷ []) (of_option (met_inside (is_there c)) n) (casts (in_option expressions n)) (casts (in_option expressions (option_map (with_cast c) n))) (grown_option all c n placed.1))
-
-grown_simple : (all : List Token) (c : Recast) (x : Simple) → PlacedSimple all x → GrowCasts all c (span_of_simple x ∷ []) (met_in_simple (is_there c) x) (in_simple x) (in_simple (simple_with_cast c x))
-grown_simple all c (assign s u r) placed =
-    whole all c s (span_of u ∷ (span_of_right r ∷ [])) (met_inside (is_there c) u + met_in_right (is_there c) r) (casts (expressions u ++ in_right r)) (casts (expressions (with_cast c u) ++ in_right (right_with_cast c r))) placed.0
-    (joined_casts all c (span_of u ∷ []) (span_of_right r ∷ []) (met_inside (is_there c) u) (met_in_right (is_there c) r) (expressions u) (expressions (with_cast c u)) (in_right r) (in_right (right_with_cast c r))
-    (grown_in all c u placed.1) (grown_right all c r placed.2))
-grown_simple all c (does_call e) placed = grown_in all c e placed
-
-grown_step : (all : List Token) (c : Recast) (x : Option Simple) → IfSome x (PlacedSimple all)
-    → GrowCasts all c (option_spans span_of_simple x) (of_option (met_in_simple (is_there c)) x) (in_option in_simple x) (in_option in_simple (option_map (simple_with_cast c) x))
-grown_step all c None placed = none all c []
-grown_step all c (Some x) placed = grown_simple all c x placed
-
-grown_initial : (all : List Token) (c : Recast) (x : Option Right) → IfSome x (PlacedRight all)
-    → GrowCasts all c (option_spans span_of_right x) (of_option (met_in_right (is_there c)) x) (in_option in_right x) (in_option in_right (option_map (right_with_cast c) x))
-grown_initial all c None placed = none all c []
-grown_initial all c (Some r) placed = grown_right all c r placed
-
--- ---- among statements
-
-grown_local : (all : List Token) (c : Recast) (l : Local) → PlacedLocal all l → Grows all c (l.span ∷ []) (met_in_local (is_there c) l) (local_entities l) (local_entities (local_with_cast c l))
-grown_local all c l placed =
-    let n : ℕ = met_in_local (is_there c) l in
-    let many : 0 + n ≡ n = omega arith in
-    let spans : List Span = l.declaration.span ∷ option_spans span_of_right l.initial in
-    whole all c l.span spans n (local_entities l) (local_entities (local_with_cast c l)) placed.0
-    (again all c spans (0 + n) n (local_entities l) (local_entities (local_with_cast c l)) many
-    (joined all c (l.declaration.span ∷ []) (option_spans span_of_right l.initial) 0 n (declared Role.Local l.declaration ∷ []) (declared Role.Local l.declaration ∷ [])
-    (casts (in_local l)) (casts (in_local (local_with_cast c l))) (one_declared all c Role.Local l.declaration placed.1) (grown_initial all c l.initial placed.2)))
-
-grown_first : (all : List Token) (c : Recast) (f : First) → PlacedFirst all f → Grows all c (first_spans f) (met_in_first (is_there c) f) (first_entities f) (first_entities (first_with_cast c f))
-grown_first all c nothing placed = none all c []
-grown_first all c (declares l) placed = grown_local all c l placed
-grown_first all c (does x) placed = grown_simple all c x placed
-
-grown_head : (all : List Token) (c : Recast) (h : Head) → PlacedHead all h → Grows all c (head_spans h) (met_in_head (is_there c) h) (head_entities h) (head_entities (head_with_cast c h))
-grown_head all c h placed =
-    joined all c (first_spans h.first ++ option_spans span_of h.test) (option_spans span_of_simple h.step)
-    (met_in_first (is_there c) h.first + of_option (met_inside (is_there c)) h.test) (of_option (met_in_simple (is_there c)) h.step)
-    (first_entities h.first ++ casts (in_option expressions h.test)) (first_entities (first_with_cast c h.first) ++ casts (in_option expressions (option_map (with_cast c) h.test)))
-    (casts (in_option in_simple h.step)) (casts (in_option in_simple (option_map (simple_with_cast c) h.step)))
-    (joined all c (first_spans h.first) (option_spans span_of h.test) (met_in_first (is_there c) h.first) (of_option (met_inside (is_there c)) h.test)
-    (first_entities h.first) (first_entities (first_with_cast c h.first)) (casts (in_option expressions h.test)) (casts (in_option expressions (option_map (with_cast c) h.test)))
-    (grown_first all c h.first placed.0) (grown_option all c h.test placed.1))
-    (grown_step all c h.step placed.2)
-
--- an expression, and a statement after it
-tested : (all : List Token) (c : Recast) (e : Expression) (s : Span) (k : ℕ) (old new : List Entity) → Placed all e → Grows all c (s ∷ []) k old new
-    → Grows all c (span_of e ∷ (s ∷ [])) (met_inside (is_there c) e + k) (casts (expressions e) ++ old) (casts (expressions (with_cast c e)) ++ new)
-tested all c e s k old new placed inner =
-    joined all c (span_of e ∷ []) (s ∷ []) (met_inside (is_there c) e) k (casts (expressions e)) (casts (expressions (with_cast c e))) old new (grown_in all c e placed) inner
-
-mutual
-  grown_statement : (all : List Token) (c : Recast) (s : Statement) → PlacedStatement all s → Grows all c (span_of_statement s ∷ []) (met_in_statement (is_there c) s) (statement_entities s) (statement_entities (statement_with_cast c s))
-  grown_statement all c (tree.empty s) placed = none all c (s ∷ [])
-  grown_statement all c (tree.block s inner) placed =
-      whole all c s (statement_spans inner) (met_in_statements (is_there c) inner) (statements_entities inner) (statements_entities (statements_with_cast c inner)) placed.0 (grown_statements all c inner placed.1)
-  grown_statement all c (tree.declare s l) placed = whole all c s (l.span ∷ []) (met_in_local (is_there c) l) (local_entities l) (local_entities (local_with_cast c l)) placed.0 (grown_local all c l placed.1)
-  grown_statement all c (tree.simple s x) placed = whole all c s (span_of_simple x ∷ []) (met_in_simple (is_there c) x) (casts (in_simple x)) (casts (in_simple (simple_with_cast c x))) placed.0 (grown_simple all c x placed.1)
-  grown_statement all c (tree.jump s j) placed = none all c (s ∷ [])
-  grown_statement all c (tree.return s e) placed =
-      whole all c s (option_spans span_of e) (of_option (met_at (is_there c)) e) (casts (in_option expressions e)) (casts (in_option expressions (option_map (λ a. around c (with_cast c a)) e))) placed.0
-      (grown_returned all c e placed.1)
-  grown_statement all c (tree.if_then s e a) placed =
-      whole all c s (span_of e ∷ (span_of_statement a ∷ [])) (met_inside (is_there c) e + met_in_statement (is_there c) a)
-      (casts (expressions e) ++ statement_entities a) (casts (expressions (with_cast c e)) ++ statement_entities (statement_with_cast c a)) placed.0
-      (tested all c e (span_of_statement a) (met_in_statement (is_there c) a) (statement_entities a) (statement_entities (statement_with_cast c a)) placed.1 (grown_statement all c a placed.2))
-  grown_statement all c (tree.if_then_else s e a b) placed =
-      whole all c s (span_of e ∷ (span_of_statement a ∷ (span_of_statement b ∷ []))) (met_inside (is_there c) e + met_in_statement (is_there c) a + met_in_statement (is_there c) b)
-      (casts (expressions e) ++ statement_entities a ++ statement_entities b) (casts (expressions (with_cast c e)) ++ statement_entities (statement_with_cast c a) ++ statement_entities (statement_with_cast c b)) placed.0
-      (joined all c (span_of e ∷ (span_of_statement a ∷ [])) (span_of_statement b ∷ []) (met_inside (is_there c) e + met_in_statement (is_there c) a) (met_in_statement (is_there c) b)
-      (casts (expressions e) ++ statement_entities a) (casts (expressions (with_cast c e)) ++ statement_entities (statement_with_cast c a)) (statement_entities b) (statement_entities (statement_with_cast c b))
-      (tested all c e (span_of_statement a) (met_in_statement (is_there c) a) (statement_entities a) (statement_entities (statement_with_cast c a)) placed.1 (grown_statement all c a placed.2))
-      (grown_statement all c b placed.3))
-  grown_statement all c (tree.while s e a) placed =
-      whole all c s (span_of e ∷ (span_of_statement a ∷ [])) (met_inside (is_there c) e + met_in_statement (is_there c) a)
-      (casts (expressions e) ++ statement_entities a) (casts (expressions (with_cast c e)) ++ statement_entities (statement_with_cast c a)) placed.0
-      (tested all c e (span_of_statement a) (met_in_statement (is_there c) a) (statement_entities a) (statement_entities (statement_with_cast c a)) placed.1 (grown_statement all c a placed.2))
-  grown_statement all c (tree.for s h a) placed =
-      whole all c s (head_spans h ++ (span_of_statement a ∷ [])) (met_in_head (is_there c) h + met_in_statement (is_there c) a)
-      (head_entities h ++ statement_entities a) (head_entities (head_with_cast c h) ++ statement_entities (statement_with_cast c a)) placed.0
-      (joined all c (head_spans h) (span_of_statement a ∷ []) (met_in_head (is_there c) h) (met_in_statement (is_there c) a) (head_entities h) (head_entities (head_with_cast c h))
-      (statement_entities a) (statement_entities (statement_with_cast c a)) (grown_head all c h placed.1) (grown_statement all c a placed.2))
-
-  grown_statements : (all : List Token) (c : Recast) (inner : Statements) → PlacedStatements all inner
-      → Grows all c (statement_spans inner) (met_in_statements (is_there c) inner) (statements_entities inner) (statements_entities (statements_with_cast c inner))
-  grown_statements all c no_statements placed = none all c []
-  grown_statements all c (statement a rest) placed =
-      joined all c (span_of_statement a ∷ []) (statement_spans rest) (met_in_statement (is_there c) a) (met_in_statements (is_there c) rest)
-      (statement_entities a) (statement_entities (statement_with_cast c a)) (statements_entities rest) (statements_entities (statements_with_cast c rest))
-      (grown_statement all c a placed.0) (grown_statements all c rest placed.1)
-
--- a function: its result, its parameters, and its body
-grown_body : (all : List Token) (c : Recast) (f : Function) → PlacedItem all (function f)
-    → Grows all c (f.body ∷ []) (met_in_statements (is_there c) f.statements) (statements_entities f.statements) (statements_entities (statements_with_cast c f.statements))
-grown_body all c f placed =
-    whole all c f.body (statement_spans f.statements) (met_in_statements (is_there c) f.statements) (statements_entities f.statements) (statements_entities (statements_with_cast c f.statements)) placed.4
-    (grown_statements all c f.statements placed.5)
-
-grown_function : (all : List Token) (c : Recast) (f : Function) → PlacedItem all (function f)
-    → Grows all c (f.span ∷ []) (met_in_statements (is_there c) f.statements) (item_entities (function f)) (item_entities (item_with_cast c (function f)))
-grown_function all c f placed =
-    let n : ℕ = met_in_statements (is_there c) f.statements in
-    let parameters : List Entity = map (declared Role.Parameter) f.parameters in
-    let spans : List Span = (point f.name.site ∷ declaration_spans f.parameters) ++ (f.body ∷ []) in
-    let many : 0 + 0 + n ≡ n = omega arith in
-    let low : f.name.site.token ≤ f.name.site.token = omega arith in
-    whole all c f.span (f.result.span ∷ spans) n (item_entities (function f)) (item_entities (item_with_cast c (function f))) placed.0
-    (behind_span all c f.result.span spans n (item_entities (function f)) (item_entities (item_with_cast c (function f)))
-    (again all c spans (0 + 0 + n) n (item_entities (function f)) (item_entities (item_with_cast c (function f))) many
-    (joined all c (point f.name.site ∷ declaration_spans f.parameters) (f.body ∷ []) (0 + 0) n (result_of f ∷ parameters) (result_of f ∷ parameters)
-    (statements_entities f.statements) (statements_entities (statements_with_cast c f.statements))
-    (joined all c (point f.name.site ∷ []) (declaration_spans f.parameters) 0 0 (result_of f ∷ []) (result_of f ∷ []) parameters parameters
-    (one_in all c (point f.name.site) (result_of f) low low) (all_declared all c Role.Parameter f.parameters placed.3))
-    (grown_body all c f placed))))
-
-grown_structure : (all : List Token) (c : Recast) (i : Item) → PlacedItem all i → Grows all c (span_of_item i ∷ []) (met_in_item (is_there c) i) (item_entities i) (item_entities (item_with_cast c i))
-grown_structure all c (structure s) placed =
-    let fields : List Entity = map (declared Role.Field) s.fields in
-    whole all c s.span (point s.name.site ∷ declaration_spans s.fields) 0 fields fields placed.0 (behind_span all c (point s.name.site) (declaration_spans s.fields) 0 fields fields (all_declared all c Role.Field s.fields placed.2))
-grown_structure all c (global g) placed =
-    let one : List Entity = declared Role.Global g.declaration ∷ [] in
-    whole all c g.span (g.declaration.span ∷ form_spans g.form) 0 one one placed.0 (before_spans all c (g.declaration.span ∷ []) (form_spans g.form) 0 one one (one_declared all c Role.Global g.declaration placed.1))
-grown_structure all c (function f) placed = grown_function all c f placed
-
-grown_all : (all : List Token) (c : Recast) (items : List Item) → PlacedItems all items → Grows all c (item_spans items) (met_in_items (is_there c) items) (entities_in items) (entities_in (map (item_with_cast c) items))
-grown_all all c [] placed = none all c []
-grown_all all c (i ∷ rest) placed =
-    joined all c (span_of_item i ∷ []) (item_spans rest) (met_in_item (is_there c) i) (met_in_items (is_there c) rest) (item_entities i) (item_entities (item_with_cast c i))
-    (entities_in rest) (entities_in (map (item_with_cast c) rest)) (grown_structure all c i placed.0) (grown_all all c rest placed.1)
-
-pub grown_items : (all : List Token) (c : Recast) (items : List Item) (until : ℕ) → Follow all 0 until (item_spans items) → PlacedItems all items
-    → Grown c (met_in_items (is_there c) items) 0 until (entities_in items) (entities_in (map (item_with_cast c) items))
-grown_items all c items until follow placed = grown_all all c items placed 0 until (omega arith) follow

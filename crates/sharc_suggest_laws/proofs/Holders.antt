@@ -1,6 +1,6 @@
 -- What holds of all that has a type holds of the fields, variables, globals and results of a program, and of the casts
 -- in its functions.
-use Rattle.sharc_suggest_laws.proofs.Imports.{◌≡◌, Bool, true, false, List, [], ◌∷◌, ◌++◌, map, refl, AllByRecursion, Declaration, GlobalDefinition, StructDefinition, expressions, in_option, in_right, in_simple, in_first, in_statement, in_statements, in_function, Expression, identifier, constant, parentheses, call, spawn, on_value, on_place, cast, index, field, unary, binary, Simple, First, nothing, declares, does, Head, Statement, Statements, no_statements, statement, Function, Item, structure, global, function, Role, Entity, declared, cast_entity, casts, first_entities, head_entities, statement_entities, statements_entities, result_of, item_entities, entities_in, structs_in, globals_in, functions_in, declarations_of, declarations_in, first_locals, locals_in, locals_in_all, front, back, joint}
+use Rattle.sharc_suggest_laws.proofs.Imports.{◌≡◌, Bool, true, false, List, [], ◌∷◌, ◌++◌, map, refl, AllByRecursion, Declaration, GlobalDefinition, StructDefinition, expressions, in_option, in_right, in_simple, in_first, in_statement, in_statements, in_function, Expression, cast, First, nothing, declares, does, Head, Statement, Statements, no_statements, statement, Function, Item, structure, global, function, Role, Entity, declared, cast_entity, casts, first_entities, head_entities, statement_entities, statements_entities, result_of, item_entities, entities_in, structs_in, globals_in, functions_in, declarations_of, declarations_in, first_locals, locals_in, locals_in_all, front, back, joint}
 use Rattle.sharc_tree.specs.Measures.{in_head}
 use Rattle.sharc_tree.specs.Tree as tree
 
@@ -12,18 +12,8 @@ IsCastOf P _ = Unit {0}
 
 of_casts : (P : Entity → Type 0) (l : List Expression) → AllByRecursion P (casts l) → AllByRecursion (IsCastOf P) l
 of_casts P [] h = tt
-of_casts P (identifier s i ∷ rest) h = (tt, of_casts P rest h)
-of_casts P (constant s c ∷ rest) h = (tt, of_casts P rest h)
-of_casts P (parentheses s a ∷ rest) h = (tt, of_casts P rest h)
-of_casts P (call s f all ∷ rest) h = (tt, of_casts P rest h)
-of_casts P (spawn s f a ∷ rest) h = (tt, of_casts P rest h)
-of_casts P (on_value s w a ∷ rest) h = (tt, of_casts P rest h)
-of_casts P (on_place s w a ∷ rest) h = (tt, of_casts P rest h)
 of_casts P (cast s t a ∷ rest) h = (h.0, of_casts P rest h.1)
-of_casts P (index s a i ∷ rest) h = (tt, of_casts P rest h)
-of_casts P (field s a w n ∷ rest) h = (tt, of_casts P rest h)
-of_casts P (unary s o a ∷ rest) h = (tt, of_casts P rest h)
-of_casts P (binary s o at a b ∷ rest) h = (tt, of_casts P rest h)
+of_casts P (_ ∷ rest) h = (tt, of_casts P rest h)
 
 -- ---- of the casts and the locals of statements
 

@@ -1,5 +1,5 @@
 -- What receives a value comes before it, and a left side has a type by names that name what they named.
-use Rattle.sharc_suggest_laws.proofs.{Imports.{◌≡◌, ◌⊎◌, inl, inr, ℕ, zero, suc, ◌+◌, ◌<◌, ◌≤◌, Bool, true, false, cond, List, [], ◌∷◌, ◌++◌, length, Option, Some, None, IfSome, refl, ap, subst, ◌∙◌, arith, AllByRecursion, Span, expressions, in_option, in_simple, Follow, option_spans, Placed, PlacedSimple, PlacedLocal, PlacedFirst, PlacedStatement, PlacedStatements, PlacedItem, PlacedItems, span_of, span_of_right, Expression, parentheses, call, spawn, on_value, on_place, cast, index, field, unary, binary, Arguments, no_arguments, argument, Right, value, malloc, Simple, assign, does_call, Local, First, nothing, declares, does, Statement, Statements, no_statements, statement, Function, Item, structure, global, function, FaultCode, NoLvalue, Value, Scope, Kind, declared_kind, Entry, place, met, unmet, Note, fault_unless, type_notes, Role, AsLvalue, is_place, place_kind, place_notes, type_of, notes_at, in_body, item_notes, items_notes, function_notes, parameters_notes, Resolution, kind_at, functions_in, Around, opened, looping, with_names, test_notes, right_notes, simple_notes, first_notes, tests_notes, step_notes, in_head, head_notes, notes_in, notes_in_all, locals_in_all, Placing, at, places_in_first, places_in, places_in_all, places_of, places_of_all, entry_of, Receiver, of_declared, of_left, of_parameter, Giving, one_giving, givings, all_givings, option_givings, value_givings, right_givings, simple_givings, local_givings, first_givings, head_givings, givings_in, givings_in_all, item_givings, items_givings, met_in_statements, begins_at, front, back, joint}, Apart.{body_bounds, all_begin, parts_of}, Counted.{counted, in_statements as statements_counted}, Strong.{IsStrong, AreStrong}}
+use Rattle.sharc_suggest_laws.proofs.{Imports.{◌≡◌, ◌⊎◌, inl, inr, ℕ, zero, suc, ◌+◌, ◌<◌, ◌≤◌, Bool, true, false, cond, List, [], ◌∷◌, ◌++◌, length, Option, Some, None, IfSome, refl, ap, subst, ◌∙◌, arith, AllByRecursion, Span, expressions, in_option, in_simple, Follow, option_spans, Placed, PlacedSimple, PlacedLocal, PlacedFirst, PlacedStatement, PlacedStatements, PlacedItem, PlacedItems, span_of, span_of_right, Expression, parentheses, call, spawn, on_value, on_place, cast, index, field, unary, binary, Arguments, no_arguments, argument, Right, value, malloc, Simple, assign, does_call, Local, First, nothing, declares, does, Statement, Statements, no_statements, statement, Function, Item, structure, global, function, FaultCode, NoLvalue, Value, Scope, Kind, declared_kind, Entry, place, met, unmet, Note, fault_unless, type_notes, Role, AsLvalue, is_place, place_kind, place_notes, type_of, notes_at, in_body, item_notes, items_notes, function_notes, parameters_notes, Resolution, kind_at, functions_in, Around, opened, looping, with_names, test_notes, right_notes, simple_notes, first_notes, tests_notes, step_notes, in_head, head_notes, notes_in, notes_in_all, locals_in_all, Placing, at, places_in_first, places_in, places_in_all, places_of, places_of_all, entry_of, Receiver, of_declared, of_left, of_parameter, Giving, one_giving, givings, all_givings, option_givings, value_givings, right_givings, simple_givings, local_givings, first_givings, head_givings, givings_in, givings_in_all, item_givings, items_givings, met_in_statements, begins_at, front, back, joint}, Apart.{body_bounds, all_begin, parts_of}, Counted.counted, Beside.statements_counted, Strong.{IsStrong, AreStrong}}
 use Rattle.sharc_tree.specs.Tree as tree
 use Rattle.sharc_names.specs.Kinds as kinds
 use Rattle.sharc_ctype.specs.{Items.beyond, Statements.{behind_first, after}}
@@ -243,7 +243,7 @@ in_function r now file f placed typed strong =
     (front (IsStrong r now) (heads ++ notes_in_all around (in_body file f) f.statements) (beyond 200 (locals_in_all f.statements)) strong) in
     let low : AllByRecursion (λ (g : Giving). f.body.first.token ≤ (span_of g.given).first.token) gs =
     all_begin f.body.first.token gs (λ t some.
-    let many : met_in_statements (begins_at t) f.statements ≡ counted (begins_at t) gs = statements_counted (begins_at t) scope token f.statements in
+    let many : met_in_statements (begins_at t) f.statements ≡ counted (begins_at t) gs = statements_counted (record { typed = r; modes = []; reasons = [] }) (begins_at t) scope token f.statements in
     (body_bounds r.program.tokens.list f placed t (omega (arith, many, some))).0) in
     behind_all r now token f.body.first.token gs (parts_of r.program.tokens.list f placed).named low (in_statements r now token around (in_body file f) scope f.statements placed.5 typed inner)
 

@@ -5,6 +5,7 @@ pub mod Agreed
 pub mod Apart
 pub mod Arguments
 pub mod Bases
+pub mod Beside
 pub mod CallNames
 pub mod Calls
 pub mod Clear
@@ -51,6 +52,7 @@ pub mod Sound
 pub mod Spelled
 pub mod SpelledAll
 pub mod Spines
+pub mod Spread
 pub mod Stands
 pub mod StatedWith
 pub mod Stay

@@ -1,5 +1,5 @@
 -- At each place one mismatch of modes at most: each is reported of a giving, at its first token.
-use Rattle.sharc_suggest_laws.proofs.{Imports.{◌≡◌, ℕ, ◌+◌, ◌≤◌, ◌==◌, Bool, true, false, cond, List, [], ◌∷◌, ◌++◌, length, Option, Some, None, refl, ap, ◌∙◌, arith, flat_map, filter, Base, Span, span_of, Expression, Resolution, kind_at, ModeMismatch, NamedByLockPath, ModeError, Finding, Wrong, Names, Takes, Assignment, agree, agree_notes, base_of, error_where, error_of, errors_by, is_named, mismatch, shown, modes_at, Sharing, same_all, text_at, is_mismatch_at, OneMismatch, count_of, met_by, met_in_items, begins_at, Giving, items_givings, wanted, least}, Agreed.{told_of, told_in, in_program}, Counted.{counted, in_items as items_counted}, Few.values_begin_apart, Quiet.{one, ones}}
+use Rattle.sharc_suggest_laws.proofs.{Imports.{◌≡◌, ℕ, ◌+◌, ◌≤◌, ◌==◌, Bool, true, false, cond, List, [], ◌∷◌, ◌++◌, length, Option, Some, None, refl, ap, ◌∙◌, arith, flat_map, filter, Base, Span, span_of, Expression, Resolution, kind_at, ModeMismatch, NamedByLockPath, ModeError, Finding, Wrong, Names, Takes, Assignment, agree, agree_notes, base_of, error_where, error_of, errors_by, is_named, mismatch, shown, modes_at, Sharing, same_all, text_at, is_mismatch_at, OneMismatch, count_of, met_by, met_in_items, begins_at, Giving, items_givings, wanted, least}, Agreed.{told_of, told_in}, Beside.{in_program, items_counted}, Counted.counted, Spread.values_begin_apart, Quiet.{one, ones}}
 use Rattle.sharc_mode.specs.WellModed.{notes_about}
 
 -- ---- of a value: one at its first token
@@ -78,6 +78,6 @@ one_mismatch m errors placed says t =
     let told : told_at t errors ≡ ones t notes = ap (told_at t) says.are ∙ told_all t m.typed notes notes in
     let of_all : ones t notes ≡ told_in t m gs = in_program t m says.touched in
     let few : told_in t m gs ≤ counted (begins_at t) gs = told_few t m gs in
-    let many : met_in_items (begins_at t) m.typed.program.items ≡ counted (begins_at t) gs = items_counted (begins_at t) m.typed.program.items in
+    let many : met_in_items (begins_at t) m.typed.program.items ≡ counted (begins_at t) gs = items_counted m (begins_at t) m.typed.program.items in
     let most : met_in_items (begins_at t) m.typed.program.items ≤ 1 = values_begin_apart m.typed.program placed t in
     omega (arith, told, of_all, few, many, most)

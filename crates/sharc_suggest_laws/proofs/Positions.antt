@@ -1,5 +1,5 @@
 -- Positions under their new numbers.
-use Rattle.sharc_suggest_laws.proofs.{Imports.{◌≡◌, ℕ, ◌+◌, ◌≤◌, ◌==◌, Bool, true, false, ◌&&◌, cond, inl, inr, List, [], ◌∷◌, Option, Some, None, length, replicate, get_or, refl, ap, sym, ◌∙◌, true≢false, eq-eqb, arith, get_or-map, and_from, length-replicate, find, Private, IsPlaced, Recast, is_there, recast_of, program_with, resolution_with, targets, inserted, moved, first_of, first_new, renumbered, PositionsStay, met_in_items, Entity, Numbered, entities_in, entity_at, positions_of, positions_in, numbered_from, is_told_by, Cast, Reason, Assignment, sharing_of}, Grown.{IsCastOf, Grown, grown_items}, Inserted.{among, renumbered_kept}}
+use Rattle.sharc_suggest_laws.proofs.{Imports.{◌≡◌, ℕ, ◌+◌, ◌≤◌, ◌==◌, Bool, true, false, ◌&&◌, cond, inl, inr, List, [], ◌∷◌, Option, Some, None, length, replicate, get_or, refl, ap, sym, ◌∙◌, true≢false, eq-eqb, arith, get_or-map, and_from, length-replicate, find, Private, IsPlaced, Recast, is_there, recast_of, program_with, resolution_with, targets, inserted, moved, first_of, first_new, renumbered, PositionsStay, met_in_items, Entity, Numbered, entities_in, entity_at, positions_of, positions_in, numbered_from, is_told_by, Cast, Reason, Assignment, sharing_of}, Grown.{IsCastOf, Grown}, Spread.grown_items, Inserted.{among, renumbered_kept}}
 
 -- ---- the first that is determined by the cast's tokens has a number that is not past the old ones
 

@@ -1,5 +1,5 @@
 -- What tokens name in a program with a suggested cast written in it.
-use Rattle.sharc_suggest_laws.proofs.{Imports.{◌≡◌, ◌⊎◌, inl, inr, ℕ, ◌+◌, ◌==◌, zero, suc, Bool, true, false, cond, List, [], ◌∷◌, Some, slice_get, refl, ap, sym, subst, ◌∙◌, false≢true, bytes_eq-Decides, AllByRecursion, Base, Site, WrittenType, Declaration, GlobalDefinition, GlobalForm, Array, Constant, Number, Character, Null, UnaryOperator, Not, Dereference, NumberType, expressions, Expression, identifier, constant, parentheses, call, spawn, cast, index, field, unary, binary, Function, Named, Kind, array, is_long, declared_kind, element_kind, promoted, common, int, long, global_kind, Entity, OperatorClass, Shift, Arithmetic, entities_in, numbered, numbered_from, positions_of, number_kind, constant_kind, unary_result, class_of, binary_result, Resolution, named_at, globals_in, functions_in, declarations_in, declared_at, variable_kind, global_kind_of, result_kind_of, named_kind, called_kind, kind_at, base_of, is_field, NamesStruct, IsNamedBase, IsNamedType, names_struct, base_site, is_dull}, Bases.{Have, HaveCasts, HoldInAll, in_all, AreDeclared, first_casts}, Mild.NamesBase}
+use Rattle.sharc_suggest_laws.proofs.{Imports.{◌≡◌, ◌⊎◌, inl, inr, ℕ, ◌+◌, ◌==◌, zero, suc, Bool, true, false, cond, List, [], ◌∷◌, Some, slice_get, refl, ap, sym, subst, ◌∙◌, false≢true, bytes_eq-Decides, AllByRecursion, Base, Site, WrittenType, Declaration, GlobalDefinition, GlobalForm, Array, Constant, Number, Character, Null, UnaryOperator, Not, Dereference, NumberType, expressions, Expression, identifier, constant, parentheses, call, spawn, cast, index, field, unary, binary, Function, Named, Kind, array, is_long, declared_kind, element_kind, int, long, global_kind, Entity, OperatorClass, Shift, Arithmetic, entities_in, numbered, numbered_from, positions_of, number_kind, constant_kind, unary_result, class_of, binary_result, Resolution, named_at, globals_in, functions_in, declarations_in, declared_at, variable_kind, global_kind_of, result_kind_of, named_kind, called_kind, kind_at, base_of, is_field, NamesStruct, IsNamedBase, IsNamedType, names_struct, base_site, is_dull}, Bases.{Have, HaveCasts, HoldInAll, in_all, AreDeclared, first_casts}, Mild.NamesBase}
 
 -- ---- a base that something has, and where it is named
 
@@ -155,4 +155,4 @@ expression_based r all _ h = no_struct (entities_in r.program.items) Base.Void n
 pub given_based : (r : Resolution) (e : Expression) → HaveCasts (λ (w : WrittenType). HasBase (entities_in r.program.items) w.ctype.base) (expressions e) → HasBase (entities_in r.program.items) (base_of (kind_at r e))
 given_based r e h =
     let all : Have (λ (w : WrittenType). HasBase (entities_in r.program.items) w.ctype.base) (entities_in r.program.items) = each_has (entities_in r.program.items) (entities_in r.program.items) (own_base (entities_in r.program.items)) in
-    expression_based r (in_all (λ (w : WrittenType). HasBase (entities_in r.program.items) w.ctype.base) r.program.items all) e h
+    expression_based r (in_all (λ (w : WrittenType). HasBase (entities_in r.program.items) w.ctype.base) r all) e h

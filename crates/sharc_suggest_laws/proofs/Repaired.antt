@@ -1,5 +1,5 @@
 -- The mismatch for which a cast was suggested is gone.
-use Rattle.sharc_suggest_laws.proofs.{Imports.{◌≡◌, ℕ, ◌+◌, ◌<◌, ◌≤◌, ◌==◌, ◌&&◌, Bool, true, List, ◌∷◌, ◌++◌, length, Some, refl, ap, subst, ◌∙◌, eq-eqb, arith, not, and_parts, and_from, AllByRecursion, Span, Declaration, without_parentheses, is_lvalue, IsPlaced, span_of, Expression, Scope, Recast, is_there, all_with_cast, recast_of, assignment_with, receiver_with, RepairsWhereTyped, count_of, met_by, met_in_items, begins_at, AsLvalue, heads_notes, no_heads, sizes_notes, file_scope, items_notes, main_missing, notes_about, Resolution, named_at, parameters_named, Cast, ModeError, cell_at, expected, Assignment, IsWhole, is_named, parameter_names, names_at_call, taken_variable, at_call, row_at, is_readonly, said_of_paths, EachNameOnce, OnlyNames, NamesInTypes, SameKinds, IsSuggested, differ_first, may_be_cast, keeps_all, Receiver, of_declared, of_left, of_parameter, Giving, items_givings, beyond, wanted, wanted_of, front, back}, Added.{suggested_is_added_once, at_tokens}, Arguments.{IsGivenTo, in_items as arguments_in}, CallNames.{IsSaid, calls_said}, Calls.call_stays, Clear.all_clear, Counted.{counted, counted_append, in_items as items_counted}, Few.{at_most_one, begins_once}, Gone.gone_again, Lefts.{IsBehind, Stands, in_items as lefts_in}, Folded.IsOwnAt, Noted.{Clean, clean_from, Noted}, Owned.all_own, RowsStay.{Frame, now, first_at}, Site.{IsFor, has_site}, Spines.spine, Stands.first_fits, Stay.{notes_grown, names_stay_where_typed, keeps_expected}, Strong.{IsStrong, AreStrong, all_strong}, Types.types_stay, Wants.{left_wanted, IsCall, parameters_same, parameters_clear, beyond_clear, beyond_named, parameter_wanted}}
+use Rattle.sharc_suggest_laws.proofs.{Imports.{◌≡◌, ℕ, ◌+◌, ◌<◌, ◌≤◌, ◌==◌, ◌&&◌, Bool, true, List, ◌∷◌, ◌++◌, length, Some, refl, ap, subst, ◌∙◌, eq-eqb, arith, not, and_parts, and_from, AllByRecursion, Span, Declaration, without_parentheses, is_lvalue, IsPlaced, span_of, Expression, Scope, Recast, is_there, all_with_cast, recast_of, assignment_with, receiver_with, RepairsWhereTyped, count_of, met_by, met_in_items, begins_at, AsLvalue, heads_notes, no_heads, sizes_notes, file_scope, items_notes, main_missing, notes_about, Resolution, named_at, parameters_named, Cast, ModeError, cell_at, expected, Assignment, IsWhole, is_named, parameter_names, names_at_call, taken_variable, at_call, row_at, is_readonly, said_of_paths, EachNameOnce, OnlyNames, NamesInTypes, SameKinds, IsSuggested, differ_first, may_be_cast, keeps_all, Receiver, of_declared, of_left, of_parameter, Giving, items_givings, beyond, wanted, wanted_of, front, back}, Added.{suggested_is_added_once, at_tokens}, Arguments.IsGivenTo, CallNames.IsSaid, Beside.{calls_said, items_counted, arguments_in}, Calls.call_stays, Clear.all_clear, Counted.{counted, counted_append}, Few.at_most_one, Spread.begins_once, Gone.gone_again, Lefts.{IsBehind, Stands, in_items as lefts_in}, Folded.IsOwnAt, Noted.{Clean, clean_from, Noted}, Owned.all_own, RowsStay.{Frame, now, first_at}, Site.{IsFor, has_site}, Spines.spine, Stands.first_fits, Stay.{notes_grown, names_stay_where_typed, keeps_expected}, Strong.{IsStrong, AreStrong, all_strong}, Types.types_stay, Wants.{left_wanted, IsCall, parameters_same, parameters_clear, beyond_clear, beyond_named, parameter_wanted}}
 use Rattle.sharc_suggest.specs.Repairs.{is_free}
 
 -- of the giving that the cast was suggested for
@@ -12,7 +12,7 @@ begun_at m c tells site =
     let first : (span_of site.giving.given).first.token ≡ c.from = ap (λ (x : Cast). x.from) site.is in
     let here : met_by test site.giving.given ≡ 1 = ap count_of (eq-eqb (span_of site.giving.given).first.token c.from first) in
     let sum : met_in_items test m.typed.program.items ≡ counted test site.before + counted test (site.giving ∷ site.behind) =
-    items_counted test m.typed.program.items ∙ ap (counted test) site.split ∙ counted_append test site.before (site.giving ∷ site.behind) in
+    items_counted m test m.typed.program.items ∙ ap (counted test) site.split ∙ counted_append test site.before (site.giving ∷ site.behind) in
     let rest : counted test (site.giving ∷ site.behind) ≡ met_by test site.giving.given + counted test site.behind = refl in
     omega (arith, here, sum, rest)
 
@@ -106,5 +106,5 @@ repairs_where_typed once only in_types same_kinds m e c resolved placed low whol
     let said : IsSaid m (said_of_paths m) g = of_site (IsSaid m (said_of_paths m)) (items_givings items) site.before site.behind g site.split (calls_said m) in
     let few : met_in_items (is_there rc) items ≤ 1 =
     at_most_one (at_tokens rc) 0 (length r.program.tokens.list) (met_in_items (is_there rc) items) (begins_once r.program.tokens.list (at_tokens rc) items (length r.program.tokens.list) placed.follow placed.items) in
-    let given : IsGivenTo (is_there rc) 1 g = of_site (IsGivenTo (is_there rc) 1) (items_givings items) site.before site.behind g site.split (arguments_in (is_there rc) 1 items few) in
+    let given : IsGivenTo (is_there rc) 1 g = of_site (IsGivenTo (is_there rc) 1) (items_givings items) site.before site.behind g site.split (arguments_in m (is_there rc) 1 items few) in
     gone_again m e c whole placed says (wanted_again m e c says setup g.receiver stands said given site.wants)

@@ -254,5 +254,5 @@ IsGivenSound r g = IsSound (file_scope r.program.items).structs (kind_at r g.giv
 pub given_sound : (r : Resolution) → Clean (notes_about r.program) → AllByRecursion (IsGivenSound r) (items_givings r.program.items)
 given_sound r clean =
     let structs : StructTable = (file_scope r.program.items).structs in
-    let all : HoldInAll (IsSoundType structs) r.program.items = in_all (IsSoundType structs) r.program.items (of_items (IsSoundType structs) r.program.items (types_sound r clean)) in
+    let all : HoldInAll (IsSoundType structs) r.program.items = in_all (IsSoundType structs) r (of_items (IsSoundType structs) r.program.items (types_sound r clean)) in
     each (IsGiven (IsSoundType structs)) (IsGivenSound r) (λ g h. kind_sound structs r all g.given h) (items_givings r.program.items) all.given

@@ -1,5 +1,5 @@
 -- Each token names what it named, where the program with a suggested cast is typed.
-use Rattle.sharc_suggest_laws.proofs.{Imports.{IsLow, Span, WrittenType, expressions, IsPlaced, span_of, Expression, IsSuggested, differ_first, may_be_cast, keeps_all, Giving, items_givings, ModeError, Cast, Assignment, Some, ◌≡◌, ℕ, ◌+◌, ◌≤◌, ◌==◌, ◌&&◌, Bool, true, List, [], ◌∷◌, length, refl, ap, sym, subst, ◌∙◌, eq-eqb, arith, and_parts, and_from, AllByRecursion, Recast, type_at, is_there, program_with_cast, recast_of, base_site, program_with, NamesStayWhereTyped, count_of, met_by, met_in_items, Entity, entities_in, numbered, file_scope, notes_about, IsTyped, Resolution, IsResolved, EachNameOnce, OnlyNames, NamesInTypes, IsNamedType, back, joint}, Added.at_tokens, Bases.{Have, HaveCasts, of_items, in_all, IsGiven}, Counted.{counted, counted_append, in_items as items_counted}, Few.{at_most_one, begins_once}, Folded.keeps, Mild.{IsSpelled, NamesBase, type_mild}, Noted.{Clean, clean_from, Noted}, Owned.all_own, Renamed.{HasBase, each_has, base_named, given_based}, Reread.{setting_of, in_program}, Retyped.{Setting, IsMild, AreMild}, Site.{IsFor, HasSite, has_site}, SpelledAll.spelled}
+use Rattle.sharc_suggest_laws.proofs.{Imports.{IsLow, Span, WrittenType, expressions, IsPlaced, span_of, Expression, IsSuggested, differ_first, may_be_cast, keeps_all, Giving, items_givings, ModeError, Cast, Assignment, Some, ◌≡◌, ℕ, ◌+◌, ◌≤◌, ◌==◌, ◌&&◌, Bool, true, List, [], ◌∷◌, length, refl, ap, sym, subst, ◌∙◌, eq-eqb, arith, and_parts, and_from, AllByRecursion, Recast, type_at, is_there, program_with_cast, recast_of, base_site, program_with, NamesStayWhereTyped, count_of, met_by, met_in_items, Entity, entities_in, numbered, file_scope, notes_about, IsTyped, Resolution, IsResolved, EachNameOnce, OnlyNames, NamesInTypes, IsNamedType, back, joint}, Added.at_tokens, Bases.{Have, HaveCasts, of_items, in_all, IsGiven}, Counted.{counted, counted_append}, Beside.items_counted, Few.at_most_one, Spread.begins_once, Folded.keeps, Mild.{IsSpelled, NamesBase, type_mild}, Noted.{Clean, clean_from, Noted}, Owned.all_own, Renamed.{HasBase, each_has, base_named, given_based}, Reread.{setting_of, in_program}, Retyped.{Setting, IsMild, AreMild}, Site.{IsFor, HasSite, has_site}, SpelledAll.spelled}
 
 -- ---- the cast is at one giving alone
 
@@ -30,7 +30,7 @@ alone m c named placed site =
     at_most_one (at_tokens r) 0 (length m.typed.program.tokens.list) (met_in_items test m.typed.program.items)
     (begins_once m.typed.program.tokens.list (at_tokens r) m.typed.program.items (length m.typed.program.tokens.list) placed.follow placed.items) in
     let many : met_in_items test m.typed.program.items ≡ counted test site.before + counted test (site.giving ∷ site.behind) =
-    items_counted test m.typed.program.items ∙ ap (counted test) site.split ∙ counted_append test site.before (site.giving ∷ site.behind) in
+    items_counted m test m.typed.program.items ∙ ap (counted test) site.split ∙ counted_append test site.before (site.giving ∷ site.behind) in
     let rest : counted test (site.giving ∷ site.behind) ≡ met_by test site.giving.given + counted test site.behind = refl in
     record { before_none = omega (arith, here, few, many, rest); behind_none = omega (arith, here, few, many, rest) }
 
@@ -48,7 +48,7 @@ site_mild m c named types spelt site = λ there names scoped s clean.
     let r : Resolution = m.typed in
     let all : List Entity = entities_in r.program.items in
     let Q : WrittenType → Type 0 = λ (w : WrittenType). HasBase all w.ctype.base in
-    let given = in_all Q r.program.items (each_has all all (λ b h. h)) in
+    let given = in_all Q r (each_has all all (λ b h. h)) in
     let at : HaveCasts Q (expressions site.giving.given) = (back (IsGiven Q) site.before (site.giving ∷ site.behind) (subst (AllByRecursion (IsGiven Q)) site.split given.given)).0 in
     let has : HasBase all c.to.base = subst (HasBase all) (ap (λ (x : Cast). x.to.base) site.is) (given_based r site.giving.given at) in
     let named_base : NamesBase r (base_site (numbered all) c.to.base c.site).token c.to.base = base_named r c.to.base c.site types has in
