@@ -1,5 +1,5 @@
 -- The mismatch is gone where the same is expected of the cast as was of what was there.
-use Rattle.sharc_suggest_laws.proofs.{Imports.{IsSuggested, cast_to, Giving, items_givings, wanted, ◌≡◌, ℕ, ◌+◌, ◌≤◌, ◌==◌, ◌&&◌, Bool, true, false, cond, List, [], ◌∷◌, ◌++◌, length, Some, refl, ap, subst, ◌∙◌, eq-eqb, arith, and_from, cond-true, map-append, filter, Span, WrittenType, IsPlaced, span_of, Expression, cast, Recast, type_at, is_there, around, with_cast, recast_of, assignment_with, IsCastAt, giving_with, receiver_with, IsGone, IsExpectedAgain, GoneWhereExpected, is_mismatch_at, count_of, met_by, met_in_items, begins_at, Cast, ModeError, Finding, Assignment, IsWhole, agree_notes, Sharing}, Agreed.{told_of, told_in, told_append}, Beside.{in_program, items_counted}, Counted.{counted, counted_append}, Expected.agrees, Spread.values_begin_apart, Grown.span_same, Mismatches.{at_value, told_at, told_all}, Quiet.ones, Site.{HasSite, has_site}, Stands.suggested_stands, Rewritten.{givings_with, in_items as items_written}}
+use Rattle.sharc_suggest_laws.proofs.{Imports.{IsSuggested, cast_to, Giving, items_givings, wanted, ◌≡◌, ℕ, ◌+◌, ◌≤◌, ◌==◌, ◌&&◌, Bool, true, false, cond, List, [], ◌∷◌, ◌++◌, length, Some, refl, ap, subst, ◌∙◌, eq-eqb, arith, and_from, cond-true, map-append, filter, Span, WrittenType, IsPlaced, span_of, Expression, cast, Recast, type_at, is_there, around, with_cast, recast_of, assignment_with, IsCastAt, giving_with, receiver_with, IsGone, IsExpectedAgain, GoneWhereExpected, is_mismatch_at, count_of, met_by, met_in_items, begins_at, Cast, ModeError, Finding, Assignment, IsWhole, agree_notes, Sharing}, Agreed.{told_of, told_in, told_append}, Beside.{in_program, items_counted, items_written}, Counted.{counted, counted_append}, Expected.agrees, Spread.values_begin_apart, Grown.span_same, Mismatches.{at_value, told_at, told_all}, Quiet.ones, Site.{HasSite, has_site}, Stands.suggested_stands, Rewritten.givings_with}
 use Rattle.sharc_mode.specs.WellModed.{notes_about}
 
 around_by : (c : Recast) (e : Expression) (b : Bool) → span_of (cond b (cast (span_of e) (type_at c (span_of e)) e) e) ≡ span_of e
@@ -82,7 +82,7 @@ gone_by m e c placed before behind g split begins quiet errors says =
     let notes : List Finding = notes_about now says.touched in
     let told : told_at t errors ≡ ones t notes = ap (told_at t) says.are ∙ told_all t now.typed notes notes in
     let sum : ones t notes ≡ told_in t now (givings_with r (before ++ g ∷ behind)) =
-    in_program t now says.touched ∙ ap (told_in t now) (items_written r m.typed.program.items ∙ ap (givings_with r) split) in
+    in_program t now says.touched ∙ ap (told_in t now) (items_written m r m.typed.program.items ∙ ap (givings_with r) split) in
     let none : told_in t now (givings_with r (before ++ g ∷ behind)) ≡ 0 = alone t now r before behind g low begins quiet in
     nothing (filter (is_mismatch_at t) errors) (told ∙ sum ∙ none)
   where
