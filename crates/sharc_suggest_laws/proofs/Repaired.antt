@@ -1,5 +1,5 @@
 -- The mismatch for which a cast was suggested is gone.
-use Rattle.sharc_suggest_laws.proofs.{Imports.{◌≡◌, ℕ, ◌+◌, ◌<◌, ◌≤◌, ◌==◌, ◌&&◌, Bool, true, List, ◌∷◌, ◌++◌, length, Some, refl, ap, subst, ◌∙◌, eq-eqb, arith, not, and_parts, and_from, AllByRecursion, Span, Declaration, without_parentheses, is_lvalue, IsPlaced, span_of, Expression, Scope, Recast, is_there, all_with_cast, recast_of, assignment_with, receiver_with, RepairsWhereTyped, count_of, met_by, met_in_items, begins_at, AsLvalue, heads_notes, no_heads, sizes_notes, file_scope, items_notes, main_missing, notes_about, Resolution, named_at, parameters_named, Cast, ModeError, cell_at, expected, Assignment, IsWhole, is_named, parameter_names, names_at_call, taken_variable, at_call, row_at, is_readonly, said_of_paths, EachNameOnce, OnlyNames, NamesInTypes, SameKinds, IsSuggested, differ_first, may_be_cast, keeps_all, Receiver, of_declared, of_left, of_parameter, Giving, items_givings, beyond, wanted, wanted_of, front, back}, Added.{suggested_is_added_once, at_tokens}, Arguments.IsGivenTo, CallNames.IsSaid, Beside.{calls_said, items_counted, arguments_in}, Calls.call_stays, Clear.all_clear, Counted.{counted, counted_append}, Few.at_most_one, Spread.begins_once, Gone.gone_again, Lefts.{IsBehind, Stands, in_items as lefts_in}, Folded.IsOwnAt, Noted.{Clean, clean_from, Noted}, Owned.all_own, RowsStay.{Frame, now, first_at}, Site.{IsFor, has_site}, Spines.spine, Stands.first_fits, Stay.{notes_grown, names_stay_where_typed, keeps_expected}, Strong.{IsStrong, AreStrong, all_strong}, Types.types_stay, Wants.{left_wanted, IsCall, parameters_same, parameters_clear, beyond_clear, beyond_named, parameter_wanted}}
+use Rattle.sharc_suggest_laws.proofs.{Imports.{◌≡◌, ℕ, ◌+◌, ◌<◌, ◌≤◌, ◌==◌, ◌&&◌, Bool, true, List, ◌∷◌, ◌++◌, length, Some, refl, ap, subst, ◌∙◌, eq-eqb, arith, not, and_parts, and_from, AllByRecursion, Span, Declaration, without_parentheses, is_lvalue, IsPlaced, span_of, Expression, Scope, Recast, is_there, all_with_cast, recast_of, assignment_with, receiver_with, RepairsWhereTyped, count_of, met_by, met_in_items, begins_at, AsLvalue, heads_notes, no_heads, sizes_notes, file_scope, items_notes, main_missing, notes_about, Resolution, named_at, parameters_named, Cast, ModeError, cell_at, expected, Assignment, IsWhole, is_named, parameter_names, names_at_call, taken_variable, at_call, row_at, is_readonly, said_of_paths, EachNameOnce, OnlyNames, EachTypeFound, SameKinds, IsSuggested, differ_first, may_be_cast, keeps_all, Receiver, of_declared, of_left, of_parameter, Giving, items_givings, beyond, wanted, wanted_of, front, back}, Added.{suggested_is_added_once, at_tokens}, Arguments.IsGivenTo, CallNames.IsSaid, Beside.{calls_said, items_counted, arguments_in}, Calls.call_stays, Clear.all_clear, Counted.{counted, counted_append}, Few.at_most_one, Spread.begins_once, Gone.gone_again, Lefts.{IsBehind, Stands, in_items as lefts_in}, Folded.IsOwnAt, Noted.{Clean, clean_from, Noted}, Owned.all_own, RowsStay.{Frame, now, first_at}, Site.{IsFor, has_site}, Spines.spine, Stands.first_fits, Stay.{notes_grown, names_stay_where_typed, keeps_expected}, Strong.{IsStrong, AreStrong, all_strong}, Types.types_stay, Wants.{left_wanted, IsCall, parameters_same, parameters_clear, beyond_clear, beyond_named, parameter_wanted}}
 use Rattle.sharc_suggest.specs.Repairs.{is_free}
 
 -- of the giving that the cast was suggested for
@@ -72,8 +72,8 @@ wanted_again m e c says setup (of_parameter f all k) stands said given wants =
 
 -- ---- so
 
-pub repairs_where_typed : EachNameOnce → OnlyNames → NamesInTypes → SameKinds → RepairsWhereTyped
-repairs_where_typed once only in_types same_kinds m e c resolved placed low whole says typed =
+pub repairs_where_typed : EachNameOnce → OnlyNames → EachTypeFound → SameKinds → RepairsWhereTyped
+repairs_where_typed once only found same_kinds m e c resolved placed low whole says typed =
     let r : Resolution = m.typed in
     let rc : Recast = recast_of r c in
     let tells : ℕ → Bool = says.are.named in
@@ -81,8 +81,8 @@ repairs_where_typed once only in_types same_kinds m e c resolved placed low whol
     let file : Scope = file_scope items in
     let site : IsFor m tells c (items_givings items) = (has_site m e c says).for in
     let g : Giving = site.giving in
-    let kept = names_stay_where_typed once only in_types m e c resolved placed low says typed in
-    let said_again : Noted r (notes_about r.program) (notes_about (now m c).program) = notes_grown once only in_types m e c resolved placed low says typed in
+    let kept = names_stay_where_typed once only found m e c resolved placed low says typed in
+    let said_again : Noted r (notes_about r.program) (notes_about (now m c).program) = notes_grown once only found m e c resolved placed low says typed in
     let own : (t : ℕ) → AllByRecursion (IsOwnAt t (named_at r t)) (notes_about r.program) = λ t. all_own r t (only r resolved placed low t) (once r resolved placed low t) in
     let frame : Frame m c = record {
       kept = kept;

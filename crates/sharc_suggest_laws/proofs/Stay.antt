@@ -1,5 +1,5 @@
 -- Each token names what it named, where the program with a suggested cast is typed.
-use Rattle.sharc_suggest_laws.proofs.{Imports.{IsLow, Span, WrittenType, expressions, IsPlaced, span_of, Expression, IsSuggested, differ_first, may_be_cast, keeps_all, Giving, items_givings, ModeError, Cast, Assignment, Some, ◌≡◌, ℕ, ◌+◌, ◌≤◌, ◌==◌, ◌&&◌, Bool, true, List, [], ◌∷◌, length, refl, ap, sym, subst, ◌∙◌, eq-eqb, arith, and_parts, and_from, AllByRecursion, Recast, type_at, is_there, program_with_cast, recast_of, base_site, program_with, NamesStayWhereTyped, count_of, met_by, met_in_items, Entity, entities_in, numbered, file_scope, notes_about, IsTyped, Resolution, IsResolved, EachNameOnce, OnlyNames, NamesInTypes, IsNamedType, back, joint}, Added.at_tokens, Bases.{Have, HaveCasts, of_items, in_all, IsGiven}, Counted.{counted, counted_append}, Beside.items_counted, Few.at_most_one, Spread.begins_once, Folded.keeps, Mild.{IsSpelled, NamesBase, type_mild}, Noted.{Clean, clean_from, Noted}, Owned.all_own, Renamed.{HasBase, each_has, base_named, given_based}, Reread.{setting_of, in_program}, Retyped.{Setting, IsMild, AreMild}, Site.{IsFor, HasSite, has_site}, SpelledAll.spelled}
+use Rattle.sharc_suggest_laws.proofs.{Imports.{IsLow, Span, WrittenType, expressions, IsPlaced, span_of, Expression, IsSuggested, differ_first, may_be_cast, keeps_all, Giving, items_givings, ModeError, Cast, Assignment, Some, ◌≡◌, ℕ, ◌+◌, ◌≤◌, ◌==◌, ◌&&◌, Bool, true, List, [], ◌∷◌, length, refl, ap, sym, subst, ◌∙◌, eq-eqb, arith, and_parts, and_from, AllByRecursion, Recast, type_at, is_there, program_with_cast, recast_of, base_site, program_with, NamesStayWhereTyped, count_of, met_by, met_in_items, Entity, entities_in, numbered, file_scope, notes_about, IsTyped, Resolution, IsResolved, EachNameOnce, OnlyNames, EachTypeFound, IsNamedType, back, joint, each, IsFound}, Added.at_tokens, Bases.{Have, HaveCasts, in_all, IsGiven}, Counted.{counted, counted_append}, Beside.items_counted, Few.at_most_one, Spread.begins_once, Folded.keeps, Mild.{IsSpelled, NamesBase, type_mild}, Noted.{Clean, clean_from, Noted}, Owned.all_own, Renamed.{HasBase, each_has, base_named, given_based}, Reread.{setting_of, in_program}, Retyped.{Setting, IsMild, AreMild}, Site.{IsFor, HasSite, has_site}, SpelledAll.spelled}
 
 -- ---- the cast is at one giving alone
 
@@ -68,18 +68,18 @@ mild m c named placed types spelt site =
 -- ---- so
 
 -- the notes of the program with the cast
-pub notes_grown : EachNameOnce → OnlyNames → NamesInTypes → (m : Assignment) (e : ModeError) (c : Cast) → IsResolved m.typed → IsPlaced m.typed.program → IsLow m.typed.program → IsSuggested m e (Some c) → IsTyped (program_with c m.typed)
+pub notes_grown : EachNameOnce → OnlyNames → EachTypeFound → (m : Assignment) (e : ModeError) (c : Cast) → IsResolved m.typed → IsPlaced m.typed.program → IsLow m.typed.program → IsSuggested m e (Some c) → IsTyped (program_with c m.typed)
     → Noted m.typed (notes_about m.typed.program) (notes_about (program_with c m.typed))
-notes_grown once only in_types m e c resolved placed low says typed =
+notes_grown once only found m e c resolved placed low says typed =
     let r : Resolution = m.typed in
     let rc : Recast = recast_of r c in
     let site : HasSite m e c says = has_site m e c says in
     let old : Clean (notes_about r.program) = clean_from (notes_about r.program) resolved.typed in
     let new : Clean (notes_about (program_with_cast rc r.program)) = clean_from (notes_about (program_with_cast rc r.program)) typed in
-    let types : Have (IsNamedType r) (entities_in r.program.items) = of_items (IsNamedType r) r.program.items (in_types r resolved placed low) in
+    let types : Have (IsNamedType r) (entities_in r.program.items) = each (IsFound r) (λ (e : Entity). IsNamedType r e.written) (λ e f. f.named) (entities_in r.program.items) (found r resolved placed low) in
     in_program r rc (mild m c says.are.named placed types (spelled r resolved placed old (only r resolved placed low) (once r resolved placed low)) site.for) new
 
-pub names_stay_where_typed : EachNameOnce → OnlyNames → NamesInTypes → NamesStayWhereTyped
-names_stay_where_typed once only in_types m e c resolved placed low says typed token =
+pub names_stay_where_typed : EachNameOnce → OnlyNames → EachTypeFound → NamesStayWhereTyped
+names_stay_where_typed once only found m e c resolved placed low says typed token =
     let r : Resolution = m.typed in
-    keeps r (program_with c r) token resolved refl (all_own r token (only r resolved placed low token) (once r resolved placed low token)) (notes_grown once only in_types m e c resolved placed low says typed)
+    keeps r (program_with c r) token resolved refl (all_own r token (only r resolved placed low token) (once r resolved placed low token)) (notes_grown once only found m e c resolved placed low says typed)

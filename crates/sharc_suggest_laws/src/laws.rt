@@ -5,8 +5,8 @@ ghost use Rattle.sharc_suggest_laws.specs.{Repaired.{RepairsWhereTyped, Repairs,
 ghost use Rattle.sharc_suggest_laws.specs.Values.{ValuesBeginApart};
 
 use sharc_ctype_laws::laws::{
-    all_fair, each_name_once, each_names_itself, each_type_found, meets_constraints,
-    names_in_types, one_type, only_names, same_kinds,
+    all_fair, each_name_once, each_names_itself, each_type_found, meets_constraints, one_type,
+    only_names, same_kinds,
 };
 use sharc_infer_laws::laws::least_has_written_locks;
 
@@ -60,7 +60,7 @@ pub fn names_stay_where_typed()
 {
     each_name_once();
     only_names();
-    names_in_types();
+    each_type_found();
 }
 
 /// Where the program with a suggested cast is typed, no M1 is at the place of the error.
@@ -69,7 +69,7 @@ pub fn repairs_where_typed()
 {
     each_name_once();
     only_names();
-    names_in_types();
+    each_type_found();
     same_kinds();
 }
 
