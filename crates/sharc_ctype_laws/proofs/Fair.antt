@@ -1,4 +1,4 @@
--- What is assigned, initialised, passed and returned agrees, where no fault is noted.
+-- What is passed at a call agrees, and so does the right side of `=`, where no fault is noted.
 use Rattle.sharc_ctype_laws.proofs.{Imports.{◌≡◌, ◌⊎◌, inl, inr, Bool, true, false, not, ◌||◌, List, [], ◌∷◌, refl, ap, sym, ◌∙◌, subst, Option, Some, false≢true, AllByRecursion, Span, Identifier, Declaration, Expression, Arguments, no_arguments, argument, Right, value, malloc, TypeMismatch, Scope, Kind, same_kind, agrees, declared_kind, declared_kinds, met, unagreed, fault_unless, is_fine, Need, Role, type_of, notes_of, notes_of_all, Resolution, named_at, kind_at, declared, made, is_made, right_notes, parameters_named, passed, Agrees, IsFair}, Held.{Held, left, right, well}, Judged.{judged, met_by, argument_agrees, spawn_callee, spawn_agrees}, Scenes.{IsScene, type_fine}}
 use Rattle.sharc_tree.specs.Tree as tree
 

@@ -1,4 +1,4 @@
--- The statements of a function of which no fault is noted meet the rules.
+-- What the rules of statements ask of an lvalue, and of a local with a value.
 use Rattle.sharc_ctype_laws.proofs.{Imports.{◌≡◌, inl, inr, ℕ, zero, suc, true, false, refl, lt-ltb, arith, false≢true, true≢false, Base, GlobalForm, Array, is_lvalue, Expression, Kind, object, array, null, StructTable, global_kind, Resolution, is_aggregate, HasType, IsScalar, a_variable, a_global, a_function, in_parentheses, element_of_pointer, element_of_array, a_field, a_field_behind, pointed_to, IsHeld}, KindLemmas.{integer_is, pointer_is}, Scenes.Stands}
 use Rattle.sharc_tree.specs.Tree as tree
 use Rattle.sharc_names.specs.Kinds as kinds

@@ -1,4 +1,4 @@
--- All expressions of a program of which no fault is noted are judged, each in its scope.
+-- An expression of which no fault is noted is judged in its scope; the scopes of statements.
 use Rattle.sharc_ctype_laws.proofs.{Imports.{◌≡◌, ℕ, Bool, true, false, cond, List, [], ◌∷◌, refl, Some, AllByRecursion, Declaration, Expression, Local, First, declares, Head, Statement, Scope, declared_kind, StructTable, Entry, Role, notes_of, Around, with_names, is_here, declared, local_notes, first_notes, behind_first, in_head, head_notes, after, notes_in, first_locals, locals_in, Resolution, declaration_at, Placing, at, mapped}, Held.{Held, left}, Judged.{IsJudged, judged}, Scenes.{IsSolid, IsMeant, AreMeant, IsScene, type_solid}}
 use Rattle.sharc_tree.specs.Tree as tree
 use Rattle.sharc_names.specs.Names as meaning

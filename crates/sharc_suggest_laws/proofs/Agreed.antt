@@ -1,4 +1,4 @@
--- The mismatches reported in a program are those reported of each giving.
+-- How many mismatches at a token are reported of what is given.
 use Rattle.sharc_suggest_laws.proofs.{Imports.{◌≡◌, ℕ, ◌+◌, List, [], ◌∷◌, ◌++◌, arith, Finding, Assignment, agree_notes, Giving, wanted}, Quiet.{ones, ones_append}}
 
 -- how many mismatches at a token are reported of a giving, and of these givings

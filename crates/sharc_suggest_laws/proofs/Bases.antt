@@ -1,4 +1,4 @@
--- What holds of all written types of a program holds of all that has a type; what holds of all that has a type holds of what is declared, and of the casts in what is given.
+-- What holds of all that has a type in a program holds of what is declared, and of the casts in what is given.
 use Rattle.sharc_suggest_laws.proofs.{Imports.{Resolution, each, in_function, List, [], ◌∷◌, ◌++◌, sym, subst, AllByRecursion, WrittenType, Declaration, GlobalDefinition, expressions, Expression, cast, Function, Item, Entity, casts, entities_in, globals_in, functions_in, declarations_in, locals_in_all, Giving, items_givings, front, joint}, Grown.casts_append, Beside.{HasBelow, given_below}, Holders.{IsCastOf, IsDeclaredAs, InBody, IsHeldBy, held_by}}
 use Rattle.sharc_tree.specs.Tree as tree
 

@@ -1,4 +1,4 @@
--- The variables that are named by the paths of a call are named by paths of the program.
+-- What is said of the paths of a call, among all that is said of paths.
 use Rattle.sharc_suggest_laws.proofs.Imports.{◌≡◌, ℕ, ◌==◌, Bool, true, false, ◌||◌, List, [], ◌∷◌, ◌++◌, refl, false≢true, or_right, AllByRecursion, named_at, parameters_named, Finding, Wrong, Names, Takes, Assignment, names_at_call, is_named, Receiver, of_parameter, Giving}
 
 -- what these say is said among those

@@ -1,4 +1,4 @@
--- In a program at its tokens one value at most begins at a token: no other part begins there, and no value inside of it does.
+-- In an expression at its tokens one value at most begins at a token: no other part begins there, and no value inside of it does.
 use Rattle.sharc_suggest_laws.proofs.{Imports.{◌≡◌, ℕ, ◌+◌, ◌<◌, ◌≤◌, Bool, true, false, ◌⊎◌, inl, inr, List, [], ◌∷◌, ◌++◌, refl, eqb-true, arith, Span, Token, Follow, argument_spans, Placed, AllPlaced, span_of, Expression, constant, parentheses, call, spawn, on_value, on_place, cast, index, field, unary, binary, Arguments, no_arguments, argument, count_of, met_inside, met_inside_all, met_at, begins_at}, Follows.split}
 use Rattle.sharc_tree.specs.Placed.{IsWhole}
 use Rattle.sharc_tree.specs.Tree as tree

@@ -1,4 +1,4 @@
--- What has a type in a program at its tokens with a cast written in it: what had one before, in its order, and that many times the cast, which is after all that begins before it.
+-- What has a type in an expression at its tokens with a cast written in it: what had one before, in its order, and that many times the cast, which is after all that begins before it.
 use Rattle.sharc_suggest_laws.proofs.{Imports.{◌≡◌, ℕ, ◌+◌, ◌<◌, ◌≤◌, ◌==◌, Bool, true, false, ◌&&◌, ◌⊎◌, inl, inr, List, [], ◌∷◌, ◌++◌, map, refl, ap, sym, subst, subst₂, if◌then◌else◌, eqb-true, arith, and_parts, Span, Token, Declaration, expressions, in_arguments, Follow, point, argument_spans, declaration_spans, PlacedDeclaration, PlacedDeclarations, Placed, AllPlaced, span_of, Expression, identifier, constant, parentheses, call, spawn, on_value, on_place, cast, index, field, unary, binary, Arguments, no_arguments, argument, Role, Recast, type_at, is_there, around, with_cast, all_with_cast, count_of, met_by, met_inside, met_inside_all, met_at, Entity, declared, casts, cast_entity}, Follows.split}
 use Rattle.sharc_tree.specs.Placed.{IsWhole}
 use Rattle.sharc_tree.specs.Tree as tree
