@@ -25,8 +25,8 @@ pub found : {A : Type 0} (p : A → Bool) (x : A) (xs : List A) → find p xs �
 found p x [] h = absurd (cc)
 found {A} p x (y ∷ xs) h = elim (cases_Bool (p y)) [
   | inl i ↦
-          let same : y ≡ x = let s : Some y ≡ Some x = sym (ap (λ z. if z then Some y else find p xs) i) ∙ h in cc in
-          record { before = []; element = y; after = xs; stands = refl; is = (same, i) }
+      let same : y ≡ x = let s : Some y ≡ Some x = sym (ap (λ z. if z then Some y else find p xs) i) ∙ h in cc in
+      record { before = []; element = y; after = xs; stands = refl; is = (same, i) }
   | inr i ↦ behind_one y xs ((found p x xs) (sym (ap (λ z. if z then Some y else find p xs) i) ∙ h))
 ]
 

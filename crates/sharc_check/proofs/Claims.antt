@@ -81,7 +81,7 @@ module _ (W : Type 0) (N T : ℕ → Type 0) where
   levels_are r levels = (
     λ h path x has o. (names_are (object_of r (lock_of path))).0 (of_each (λ level. Hold (names_in_level r level)) levels (Some (Locked path)) (spread (Said W N T) (names_in_level r) levels h) has) x o,
     λ h. gather (Said W N T) (names_in_level r) levels
-    (to_each (λ level. Hold (names_in_level r level)) levels (λ level has. level_back r level (λ path x is o. h path x (subst (Contains levels) is has) o))),
+        (to_each (λ level. Hold (names_in_level r level)) levels (λ level has. level_back r level (λ path x is o. h path x (subst (Contains levels) is has) o))),
   )
 
   read_back : (r : Resolution) (how : PathReading) (o : Option Mode) → ((path : Path) (x : ℕ) → o ≡ Some (Locked path) → object_of r (read_lock r how (lock_of path)) ≡ Some x → N x) → Hold (names_read r how o)
@@ -93,5 +93,5 @@ module _ (W : Type 0) (N T : ℕ → Type 0) where
   all_read_are r how levels = (
     λ h path x has o. (names_are (object_of r (read_lock r how (lock_of path)))).0 (of_each (λ level. Hold (names_read r how level)) levels (Some (Locked path)) (spread (Said W N T) (names_read r how) levels h) has) x o,
     λ h. gather (Said W N T) (names_read r how) levels
-    (to_each (λ level. Hold (names_read r how level)) levels (λ level has. read_back r how level (λ path x is o. h path x (subst (Contains levels) is has) o))),
+        (to_each (λ level. Hold (names_read r how level)) levels (λ level has. read_back r how level (λ path x is o. h path x (subst (Contains levels) is has) o))),
   )

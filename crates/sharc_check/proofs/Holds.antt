@@ -98,8 +98,7 @@ module _ (W : Type 0) (N T : ℕ → Type 0) (m : Assignment) where
       let c = mode_notes s (misplaced n) in
       let d = private_field_notes m.typed n in
       let e = flat_map (names_in_level m.typed) n.entity.written.ctype.levels in
-      let field = where_is W N T (list_any is_private_level n.entity.written.ctype.levels) PrivateField s (text_at m.typed n.entity.token) in
-      (
+      let field = where_is W N T (list_any is_private_level n.entity.written.ctype.levels) PrivateField s (text_at m.typed n.entity.token) in (
         λ h.
             let most = front S (a ++ b ++ c ++ d) e h in
             let three = front S (a ++ b ++ c) d most in
@@ -131,8 +130,7 @@ module _ (W : Type 0) (N T : ℕ → Type 0) (m : Assignment) where
 
   thread_is : (k : ℕ) (f : Function) → H (thread_notes k f) ↔ ((d : Declaration) → is_spawned m.typed k ≡ true → Contains f.parameters d → IsShown d ≡ true → W)
   thread_is k f =
-      let each_note = parameter_notes m f.name.text in
-      (
+      let each_note = parameter_notes m f.name.text in (
         λ h d spawns has shows. (where_is W N T (IsShown d) PrivateReachesThread d.written.span f.name.text).0
             (of_each (λ x. H (parameter_notes m f.name.text x)) f.parameters d (spread S each_note f.parameters (chosen S (is_spawned m.typed k) (flat_map each_note f.parameters) h spawns)) has) shows,
         λ h. choose S (is_spawned m.typed k) (flat_map each_note f.parameters) (λ spawns. gather S each_note f.parameters

@@ -80,6 +80,7 @@ not_over (ForOpen o) l = lt-leb 63 (around_it o) l.0
 not_over (TypeWant (casting k)) l = both_off (crowded k) (nat_le 64 (depth k)) (not_crowded k l.1) (test_down (depth k) l.0)
 not_over (Typed p first b m below) l = lt-leb 9 (length below) (omega (arith, l.0))
 not_over _ l = refl
+
 -- Types.
 
 moded_goes : (p : ModePlace) (s : Sharing) → ModeAt p → Sound (moded p s) × ((y : List Word) → so_far (moded p s) y ≡ mode_place_words p (sharing_words s y)) × Moves (LowMode p) (moded p s)
@@ -207,7 +208,11 @@ settled_at : (taken : Bool) (l : ℕ) (x a : Phrase) (o : BinaryOperator) (k : C
 settled_at true l x a o k e w r u f deeper =
     let d = deeper (leb-true l (strength o) e) in
     record {
-      fits = d.fits; around_fits = d.around_fits; under_it = d.under_it; over_it = d.over_it; says = d.says;
+      fits = d.fits;
+      around_fits = d.around_fits;
+      under_it = d.under_it;
+      over_it = d.over_it;
+      says = d.says;
       up = λ h. d.up (omega (arith, h.0, h.2.0), (h.2.1, h.1), h.2.2);
       down = λ h. let g = d.down h in (omega (arith, g.0), g.1.1, (omega (arith, g.0), g.1.0, g.2));
     }
@@ -218,7 +223,11 @@ settled : (l : ℕ) (x : Phrase) (k : Cont) → Fits x → Around k → l ≤ le
 settled l x (beneath u k) w a v m f =
     let r = settled l (unary u x) k (f, w) a.1 m m a.0 in
     record {
-      fits = r.fits; around_fits = r.around_fits; under_it = r.under_it; over_it = r.over_it; says = r.says;
+      fits = r.fits;
+      around_fits = r.around_fits;
+      under_it = r.under_it;
+      over_it = r.over_it;
+      says = r.says;
       up = λ h. r.up (omega (arith, h.0), h.1, h.2.1);
       down = λ h. let g = r.down h in (omega (arith, g.0), g.1, (omega (arith, g.0), g.2));
     }
@@ -248,10 +257,14 @@ lined_goes as_first l o w a m f t P e v = ((w, a), e, v)
 
 doing_goes : (d : DoingPlace) (x : Doing) (o : Outer) → FitsDoing x → DoingAt d → Outside o → (t : Word) → Goes (λ y. outside o (doing_place_words d (doing_words x y))) t (LowDoing x × LowDoingPlace d o × LowOuter o) (doing_end d x o t)
 doing_goes (in_line p) x o w h a (mark Semicolon) = lined_goes p (does x) o w a (λ h. cc) (λ y. outside o (doing_place_words (in_line p) (doing_words x y))) (mark Semicolon) (LowDoing x × Room p o × LowOuter o) (λ y. refl) (does_moves p x o)
-doing_goes (as_step l e) x o w h a (mark CloseParenthesis) = (((h.0, h.1, w), a), λ y. refl, record {
-  up = λ r v. (r.1.2, ((r.1.0, r.1.1, r.0), omega (arith, r.1.2), r.2));
-  down = λ r. (r.1.0.2, (r.1.0.0, r.1.0.1, r.0), r.1.2);
-})
+doing_goes (as_step l e) x o w h a (mark CloseParenthesis) = (
+  ((h.0, h.1, w), a),
+  λ y. refl,
+  record {
+    up = λ r v. (r.1.2, ((r.1.0, r.1.1, r.0), omega (arith, r.1.2), r.2));
+    down = λ r. (r.1.0.2, (r.1.0.0, r.1.0.1, r.0), r.1.2);
+  },
+)
 doing_goes _ _ _ w h a _ = tt
 
 local_goes : (p : LinePlace) (d : Declaring) (r : Value) (o : Outer) → FitsType d.typing → FitsValue r → may_declare p o ≡ true → Outside o → (t : Word) → From (Valued (of_local p d) r o) t (local_end p d r o t)
@@ -273,29 +286,49 @@ invoke_goes true d x o e w h a t =
 invoke_goes false d x o e w h a t = tt
 
 subject_goes : (d : DoingPlace) (x : Phrase) (o : Outer) → Fits x → 11 ≤ level x → DoingAt d → Outside o → (t : Word) → From (Have x (part (subject d) o)) t (subject_end d x o t)
-subject_goes d x o w f h a (mark Assign) = (((h, f, w), a), λ y. refl, record {
-  up = λ l v. ((l.2.0, (omega (arith, l.0), l.1)), l.2.1);
-  down = λ l. (omega (arith, l.0.1.0), l.0.1.1, (l.0.0, l.1));
-})
+subject_goes d x o w f h a (mark Assign) = (
+  ((h, f, w), a),
+  λ y. refl,
+  record {
+    up = λ l v. ((l.2.0, (omega (arith, l.0), l.1)), l.2.1);
+    down = λ l. (omega (arith, l.0.1.0), l.0.1.1, (l.0.0, l.1));
+  },
+)
 subject_goes d x o w f h a t = invoke_goes (is_call x) d x o refl w h a t
 
 leave_goes : (p : ExpressionPlace) (x : Phrase) (o : Outer) → Fits x → floor (part p o) ≤ level x → Around (part p o) → (t : Word) → From (Have x (part p o)) t (leave p x o t)
-leave_goes (condition by_if) x o w f a (mark CloseParenthesis) = ((w, a.1), λ y. refl, record {
-  up = λ l v. (l.2.0, ((omega (arith, l.0), l.1), omega (arith, l.2.0), l.2.1));
-  down = λ l. (omega (arith, l.1.0.0), l.1.0.1, (l.0, l.1.2));
-})
-leave_goes (condition by_while) x o w f a (mark CloseParenthesis) = ((w, a.1), λ y. refl, record {
-  up = λ l v. (l.2.0, ((omega (arith, l.0), l.1), omega (arith, l.2.0), l.2.1));
-  down = λ l. (omega (arith, l.1.0.0), l.1.0.1, (l.0, l.1.2));
-})
-leave_goes returning x o w f a (mark Semicolon) = ((may o, refl, w, a.1), λ y. refl, record {
-  up = λ l v. ((omega (arith, l.0), l.1), omega (arith, l.2.0), l.2.1);
-  down = λ l. (omega (arith, l.0.0), l.0.1, (omega (arith, l.1), l.2));
-})
-leave_goes (testing l) x o w f a (mark Semicolon) = ((a.0, w, a.1), λ y. refl, record {
-  up = λ h v. (h.2.0.0, (omega (arith, h.0), h.1), h.2.0.1, h.2.1);
-  down = λ h. (omega (arith, h.1.0), h.1.1, ((h.0, h.2), h.3));
-})
+leave_goes (condition by_if) x o w f a (mark CloseParenthesis) = (
+  (w, a.1),
+  λ y. refl,
+  record {
+    up = λ l v. (l.2.0, ((omega (arith, l.0), l.1), omega (arith, l.2.0), l.2.1));
+    down = λ l. (omega (arith, l.1.0.0), l.1.0.1, (l.0, l.1.2));
+  },
+)
+leave_goes (condition by_while) x o w f a (mark CloseParenthesis) = (
+  (w, a.1),
+  λ y. refl,
+  record {
+    up = λ l v. (l.2.0, ((omega (arith, l.0), l.1), omega (arith, l.2.0), l.2.1));
+    down = λ l. (omega (arith, l.1.0.0), l.1.0.1, (l.0, l.1.2));
+  },
+)
+leave_goes returning x o w f a (mark Semicolon) = (
+  (may o, refl, w, a.1),
+  λ y. refl,
+  record {
+    up = λ l v. ((omega (arith, l.0), l.1), omega (arith, l.2.0), l.2.1);
+    down = λ l. (omega (arith, l.0.0), l.0.1, (omega (arith, l.1), l.2));
+  },
+)
+leave_goes (testing l) x o w f a (mark Semicolon) = (
+  (a.0, w, a.1),
+  λ y. refl,
+  record {
+    up = λ h v. (h.2.0.0, (omega (arith, h.0), h.1), h.2.0.1, h.2.1);
+    down = λ h. (omega (arith, h.1.0), h.1.1, ((h.0, h.2), h.3));
+  },
+)
 leave_goes (subject d) x o w f a t = subject_goes d x o w f a.0 a.1 t
 leave_goes (valued v) x o w f a t =
     from_core (Valued v (value x) o) (Have x (part (valued v) o)) t (value_end v (value x) o t) (λ y. refl)
@@ -303,22 +336,38 @@ leave_goes (valued v) x o w f a t =
 leave_goes _ x o w f a _ = tt
 
 end_goes : (x : Phrase) (k : Cont) → Fits x → floor k ≤ level x → Around k → (t : Word) → From (Have x k) t (end_at x k t)
-end_goes x (fronted h k) w f a (mark CloseParenthesis) = ((omega arith, (a.0, f, w), a.1), λ y. refl, record {
-  up = λ l v. (omega (arith, l.0), (l.2.1, l.1), l.2.2);
-  down = λ l. (omega (arith, l.0), l.1.1, (omega (arith, l.0), l.1.0, l.2));
-})
-end_goes x (indexing b k) w f a (mark CloseBracket) = ((omega arith, (a.0, a.1, w), a.2), λ y. refl, record {
-  up = λ l v. (omega (arith, l.0, l.2.0), (l.2.1, l.1), l.2.2);
-  down = λ l. (omega (arith, l.0), l.1.1, (omega (arith, l.0), l.1.0, l.2));
-})
-end_goes x (arguments g all k) w f a (mark Comma) = ((all_more all x a.0 w, a.1), λ y. ap (λ z. around k (name g ∷ (mark OpenParenthesis ∷ z))) (list_goes all x y), record {
-  up = λ l v. (omega (arith, l.0, l.2.0, highest_more all x), few_more all x l.2.1 l.1, l.2.2);
-  down = λ l. let w = few_less all x l.1 in (omega (arith, l.0, highest_more all x), w.1, (omega (arith, l.0, highest_more all x), w.0, l.2));
-})
-end_goes x (arguments g all k) w f a (mark CloseParenthesis) = ((omega arith, all_more all x a.0 w, a.1), λ y. ap (λ z. around k (name g ∷ (mark OpenParenthesis ∷ z))) (list_more all x (mark CloseParenthesis ∷ y)), record {
-  up = λ l v. (omega (arith, l.0, l.2.0, highest_more all x), few_more all x l.2.1 l.1, l.2.2);
-  down = λ l. let w = few_less all x l.1 in (omega (arith, l.0, highest_more all x), w.1, (omega (arith, l.0, highest_more all x), w.0, l.2));
-})
+end_goes x (fronted h k) w f a (mark CloseParenthesis) = (
+  (omega arith, (a.0, f, w), a.1),
+  λ y. refl,
+  record {
+    up = λ l v. (omega (arith, l.0), (l.2.1, l.1), l.2.2);
+    down = λ l. (omega (arith, l.0), l.1.1, (omega (arith, l.0), l.1.0, l.2));
+  },
+)
+end_goes x (indexing b k) w f a (mark CloseBracket) = (
+  (omega arith, (a.0, a.1, w), a.2),
+  λ y. refl,
+  record {
+    up = λ l v. (omega (arith, l.0, l.2.0), (l.2.1, l.1), l.2.2);
+    down = λ l. (omega (arith, l.0), l.1.1, (omega (arith, l.0), l.1.0, l.2));
+  },
+)
+end_goes x (arguments g all k) w f a (mark Comma) = (
+  (all_more all x a.0 w, a.1),
+  λ y. ap (λ z. around k (name g ∷ (mark OpenParenthesis ∷ z))) (list_goes all x y),
+  record {
+    up = λ l v. (omega (arith, l.0, l.2.0, highest_more all x), few_more all x l.2.1 l.1, l.2.2);
+    down = λ l. let w = few_less all x l.1 in (omega (arith, l.0, highest_more all x), w.1, (omega (arith, l.0, highest_more all x), w.0, l.2));
+  },
+)
+end_goes x (arguments g all k) w f a (mark CloseParenthesis) = (
+  (omega arith, all_more all x a.0 w, a.1),
+  λ y. ap (λ z. around k (name g ∷ (mark OpenParenthesis ∷ z))) (list_more all x (mark CloseParenthesis ∷ y)),
+  record {
+    up = λ l v. (omega (arith, l.0, l.2.0, highest_more all x), few_more all x l.2.1 l.1, l.2.2);
+    down = λ l. let w = few_less all x l.1 in (omega (arith, l.0, highest_more all x), w.1, (omega (arith, l.0, highest_more all x), w.0, l.2));
+  },
+)
 end_goes x (part p o) w f a t = leave_goes p x o w f a t
 end_goes x _ w f a _ = tt
 
@@ -329,10 +378,14 @@ ending x k a t =
     from_core (Have r.0 r.1) (Have x k) t (end_at r.0 r.1 t) s.says s.up s.down (end_goes r.0 r.1 s.fits s.over_it s.around_fits t)
 
 counted_goes : (o : BinaryOperator) (z : Phrase) (j : Cont) → Fits z → floor j ≤ level z → Around j → From (Have z j) (mark (operator_mark o)) (counted o z j)
-counted_goes BinaryOperator.Multiply z (part (counting v) o) w f a = ((a.0, (f, w), a.1), λ y. refl, record {
-  up = λ l w. (l.2.0, (omega (arith, l.0), l.1), l.2.1);
-  down = λ l. (omega (arith, l.1.0), l.1.1, (l.0, l.2));
-})
+counted_goes BinaryOperator.Multiply z (part (counting v) o) w f a = (
+  (a.0, (f, w), a.1),
+  λ y. refl,
+  record {
+    up = λ l w. (l.2.0, (omega (arith, l.0), l.1), l.2.1);
+    down = λ l. (omega (arith, l.1.0), l.1.1, (l.0, l.2));
+  },
+)
 counted_goes _ _ _ w f a = tt
 
 -- an operand that another follows
@@ -379,10 +432,14 @@ role_goes Ending x k a t h = ending x k a t
 
 close_block_goes : (o : Outer) → Outside o → From (Start o) (mark CloseBrace) (close_block o)
 close_block_goes (items all o) a = ((may o, refl, a.0, a.1), λ y. refl, record { up = λ l v. (l.1.0, omega (arith, l.1.1), l.1.2); down = λ l. (tt, (l.0, omega (arith, l.1), l.2)) })
-close_block_goes (body all r f given s) a = (is_program_more all (function_of r f given s) a.0 (a.1, a.2, a.3), λ y. program_more all (function_of r f given s) y, record {
-  up = λ l v. low_part_more all (function_of r f given s) l.1.0 (l.1.1, l.1.2, l.1.3, l.1.4);
-  down = λ l. let d = low_part_less all (function_of r f given s) l in (tt, (d.0, d.1.0, d.1.1, d.1.2, d.1.3));
-})
+close_block_goes (body all r f given s) a = (
+  is_program_more all (function_of r f given s) a.0 (a.1, a.2, a.3),
+  λ y. program_more all (function_of r f given s) y,
+  record {
+    up = λ l v. low_part_more all (function_of r f given s) l.1.0 (l.1.1, l.1.2, l.1.3, l.1.4);
+    down = λ l. let d = low_part_less all (function_of r f given s) l in (tt, (d.0, d.1.0, d.1.1, d.1.2, d.1.3));
+  },
+)
 close_block_goes (inside w o) a = tt
 
 -- room for a statement is room for one that is under another
@@ -392,10 +449,14 @@ start_room _ h = tt
 
 expression_goes : (o : Outer) (t : Word) (n : Option State) → TestsRoom (part (subject (in_line as_statement)) o) n → Goes (outside o) t (LowAround (part (subject (in_line as_statement)) o)) n → From (Start o) t n
 expression_goes o t None h m = tt
-expression_goes o t (Some (At fs n)) h m = (m.0, m.1, record {
-  up = λ l v. m.2.up (test_up (around_it o) (h v), l.1) v;
-  down = λ l. let d = m.2.down l in (start_room o d.0, d.1);
-})
+expression_goes o t (Some (At fs n)) h m = (
+  m.0,
+  m.1,
+  record {
+    up = λ l v. m.2.up (test_up (around_it o) (h v), l.1) v;
+    down = λ l. let d = m.2.down l in (start_room o d.0, d.1);
+  },
+)
 
 declaration_goes : (o : Outer) → Outside o → (t : Word) → From (Start o) t (cond (holds_items o) (begin_type (naming (local as_statement o)) t) None)
 declaration_goes (inside w o) a t = tt
@@ -440,11 +501,14 @@ under_goes w s o t r m =
     (λ l. ((l.2.0, l.0), omega (arith, l.1, l.2.1), l.2.2)) (λ l. (l.0.1, omega (arith, l.1), (l.0.0, omega (arith, l.1), l.2))) m
 
 then_goes : (b : Bool) (e : Phrase) (s : Sentence) (o : Outer) (t : Word) (r : Option State) → is_else t ≡ b → (takes_else s ≡ true → is_else t ≡ false) → is_declaration s ≡ false → Fits e → FitsAs s → Outside o → (is_else t ≡ false → From (Done (under (if_of e) s) o) t r) → From (Done s (inside (if_of e) o)) t (cond b (to (Start (inside (else_of e s) o))) r)
-then_goes true e s o t r is h d w v a deeper =
-    (((d, unless (takes_else s) (is_else t) h is, w, v), a), λ y. ap (λ u. outside o (keyword Keyword.If ∷ (mark OpenParenthesis ∷ words e (mark CloseParenthesis ∷ written s (u ∷ y))))) (sym (else_is t is)), record {
-      up = λ l v. (leb-false 63 (around_it o) v, ((l.2.0, l.0), omega (arith, l.1), l.2.2));
-      down = λ l. (l.1.0.1, omega (arith, l.1.1), (l.1.0.0, omega (arith, l.0), l.1.2));
-    })
+then_goes true e s o t r is h d w v a deeper = (
+  ((d, unless (takes_else s) (is_else t) h is, w, v), a),
+  λ y. ap (λ u. outside o (keyword Keyword.If ∷ (mark OpenParenthesis ∷ words e (mark CloseParenthesis ∷ written s (u ∷ y))))) (sym (else_is t is)),
+  record {
+    up = λ l v. (leb-false 63 (around_it o) v, ((l.2.0, l.0), omega (arith, l.1), l.2.2));
+    down = λ l. (l.1.0.1, omega (arith, l.1.1), (l.1.0.0, omega (arith, l.0), l.1.2));
+  },
+)
 then_goes false e s o t r is h d w v a deeper = under_goes (if_of e) s o t r (deeper is)
 
 done_goes : (s : Sentence) (o : Outer) → MayStand o (is_declaration s) → FitsAs s → Outside o → (t : Word) → (takes_else s ≡ true → is_else t ≡ false) → From (Done s o) t (done s o t)
@@ -474,18 +538,30 @@ named_goes (on_top all) ty n a (mark Semicolon) = top_goes (Named (on_top all) t
 named_goes (on_top all) ty n a (mark OpenBracket) = ((a.0, a.1), λ y. refl, record { up = λ l v. (l.1, l.0); down = λ l. (l.1, l.0) })
 named_goes (on_top all) ty n a (mark Assign) = ((a.0, a.1), λ y. refl, record { up = λ l v. (l.1, l.0); down = λ l. (l.1, l.0) })
 named_goes (on_top all) ty n a (mark OpenParenthesis) = ((a.0, a.1, tt), λ y. refl, record { up = λ l v. (l.1, l.0, tt); down = λ l. (l.1, l.0) })
-named_goes (field_of all s before) ty n a (mark Semicolon) = ((a.0.0, some_field before (declaring_of ty n) a.0.1 a.1), λ y. ap (λ z. program_words all (keyword Keyword.Struct ∷ (name s ∷ (mark OpenBrace ∷ z)))) (fields_more before (declaring_of ty n) y), record {
-  up = λ l v. (l.1.0, few_given_more before (declaring_of ty n) l.1.1 l.0);
-  down = λ l. let r = few_given_less before (declaring_of ty n) l.1 in (r.1, (l.0, r.0));
-})
-named_goes (parameter_of all r f before) ty n a (mark Comma) = ((a.0.0, a.0.1, declaring_more before (declaring_of ty n) a.0.2 a.1), λ y. ap (λ z. program_words all (type_words r (name f ∷ (mark OpenParenthesis ∷ z)))) (given_more before (declaring_of ty n) y), record {
-  up = λ l v. (l.1.0, l.1.1, few_given_more before (declaring_of ty n) l.1.2 l.0);
-  down = λ l. let w = few_given_less before (declaring_of ty n) l.2 in (w.1, (l.0, l.1, w.0));
-})
-named_goes (parameter_of all r f before) ty n a (mark CloseParenthesis) = ((a.0.0, a.0.1, declaring_more before (declaring_of ty n) a.0.2 a.1, tt), λ y. ap (λ z. program_words all (type_words r (name f ∷ (mark OpenParenthesis ∷ z)))) (parameters_more before (declaring_of ty n) (mark CloseParenthesis ∷ (mark OpenBrace ∷ y))), record {
-  up = λ l v. (tt, (l.1.0, l.1.1, few_given_more before (declaring_of ty n) l.1.2 l.0, tt, omega arith));
-  down = λ l. let w = few_given_less before (declaring_of ty n) l.1.2 in (w.1, (l.1.0, l.1.1, w.0));
-})
+named_goes (field_of all s before) ty n a (mark Semicolon) = (
+  (a.0.0, some_field before (declaring_of ty n) a.0.1 a.1),
+  λ y. ap (λ z. program_words all (keyword Keyword.Struct ∷ (name s ∷ (mark OpenBrace ∷ z)))) (fields_more before (declaring_of ty n) y),
+  record {
+    up = λ l v. (l.1.0, few_given_more before (declaring_of ty n) l.1.1 l.0);
+    down = λ l. let r = few_given_less before (declaring_of ty n) l.1 in (r.1, (l.0, r.0));
+  },
+)
+named_goes (parameter_of all r f before) ty n a (mark Comma) = (
+  (a.0.0, a.0.1, declaring_more before (declaring_of ty n) a.0.2 a.1),
+  λ y. ap (λ z. program_words all (type_words r (name f ∷ (mark OpenParenthesis ∷ z)))) (given_more before (declaring_of ty n) y),
+  record {
+    up = λ l v. (l.1.0, l.1.1, few_given_more before (declaring_of ty n) l.1.2 l.0);
+    down = λ l. let w = few_given_less before (declaring_of ty n) l.2 in (w.1, (l.0, l.1, w.0));
+  },
+)
+named_goes (parameter_of all r f before) ty n a (mark CloseParenthesis) = (
+  (a.0.0, a.0.1, declaring_more before (declaring_of ty n) a.0.2 a.1, tt),
+  λ y. ap (λ z. program_words all (type_words r (name f ∷ (mark OpenParenthesis ∷ z)))) (parameters_more before (declaring_of ty n) (mark CloseParenthesis ∷ (mark OpenBrace ∷ y))),
+  record {
+    up = λ l v. (tt, (l.1.0, l.1.1, few_given_more before (declaring_of ty n) l.1.2 l.0, tt, omega arith));
+    down = λ l. let w = few_given_less before (declaring_of ty n) l.1.2 in (w.1, (l.1.0, l.1.1, w.0));
+  },
+)
 named_goes (local p o) ty n a (mark Semicolon) =
     lined_goes p (local_line (declaring_of ty n) None) o (a.1, tt) a.0.1 (λ _. a.0.0) (so_far (Named (local p o) ty n)) (mark Semicolon) (LowCore (Named (local p o) ty n)) (λ y. refl)
     (declares_moves p (declaring_of ty n) None o (LowCore (Named (local p o) ty n)) (λ l. ((l.0, tt), l.1.0, l.1.1)) (λ l. (l.0.0, (l.1, l.2))))
@@ -512,10 +588,14 @@ core_goes (ForOpen o) a t =
     (want_goes (part (subject (in_line as_first)) o) (tt, a) t)
 core_goes (ForTest l o) a (mark Semicolon) = ((a.0, tt, a.1), λ y. refl, record { up = λ h v. (h.0, tt, h.1, h.2); down = λ h. (h.0, h.2, h.3) })
 core_goes (ForTest l o) a t = from_core (Want (part (testing l) o)) (ForTest l o) t (want (part (testing l) o) t) (λ y. refl) (λ h. ((h.0, h.1), h.2)) (λ h. (h.0.0, h.0.1, h.1)) (want_goes (part (testing l) o) a t)
-core_goes (ForStep l e o) a (mark CloseParenthesis) = (((a.0, a.1, tt), a.2), λ y. refl, record {
-  up = λ h v. (h.2, ((h.0, h.1, tt), omega (arith, h.2), h.3));
-  down = λ h. (h.1.0.0, h.1.0.1, h.0, h.1.2);
-})
+core_goes (ForStep l e o) a (mark CloseParenthesis) = (
+  ((a.0, a.1, tt), a.2),
+  λ y. refl,
+  record {
+    up = λ h v. (h.2, ((h.0, h.1, tt), omega (arith, h.2), h.3));
+    down = λ h. (h.1.0.0, h.1.0.1, h.0, h.1.2);
+  },
+)
 core_goes (ForStep l e o) a t = from_core (Want (part (subject (as_step l e)) o)) (ForStep l e o) t (want (part (subject (as_step l e)) o) t) (λ y. refl) (λ h. ((h.0, h.1, h.2), h.3)) (λ h. (h.0.0, h.0.1, h.0.2, h.1)) (want_goes (part (subject (as_step l e)) o) ((a.0, a.1), a.2) t)
 core_goes (Malloced v o) a (keyword Keyword.Sizeof) = ((a.0, tt, a.1), λ y. refl, record { up = λ l w. (l.0, tt, l.1); down = λ l. (l.0, l.2) })
 core_goes (Malloced v o) a t = want_goes (part (counting v) o) a t

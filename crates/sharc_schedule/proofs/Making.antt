@@ -262,12 +262,12 @@ module _ (laws : RunLaws) (threads : ThreadLaws) (code : Code) (s : Shape) (limi
         let within : i < length (word_events earlier) + 1 = subst (λ n. i < n) (ap (λ (es : List WordEvent). length es) events ∙ length-append (word_events earlier) (event ∷ [])) low in
         let started = started_low laws threads code s limit one.thread earlier run.1.started in
         subst (λ es. thread_at es i < THREADS) (sym events) (dite (ℕ_discrete i (length (word_events earlier)))
-            (λ here. let is : thread_at (word_events earlier ++ event ∷ []) i ≡ one.thread = ap (thread_at (word_events earlier ++ event ∷ [])) here ∙ (ap (λ (x : WordEvent). x.thread) (last_event (word_events earlier) event _) ∙ own) in
-                omega (arith, is, started))
-            (λ apart. let low : i < length (word_events earlier) = omega (arith, within, apart) in
-                let is = before_last (word_events earlier) (event ∷ []) i low in
-                let r = rest low in
-                omega (arith, is, r)))
+        (λ here. let is : thread_at (word_events earlier ++ event ∷ []) i ≡ one.thread = ap (thread_at (word_events earlier ++ event ∷ [])) here ∙ (ap (λ (x : WordEvent). x.thread) (last_event (word_events earlier) event _) ∙ own) in
+        omega (arith, is, started))
+        (λ apart. let low : i < length (word_events earlier) = omega (arith, within, apart) in
+        let is = before_last (word_events earlier) (event ∷ []) i low in
+        let r = rest low in
+        omega (arith, is, r)))
 
   pub journal_low : (journal : List WordEvent) (turns : List Turn) → IsJournalOf code s limit journal turns → (i : ℕ) → i < length journal → thread_at journal i < THREADS
   journal_low journal turns is i low =
