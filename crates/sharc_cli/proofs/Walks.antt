@@ -12,8 +12,8 @@ line_is_free = refl
 
 -- the two answers of a test
 pub by_test : {G : Type 0} (b : Bool) → (b ≡ true → G) → (b ≡ false → G) → G
-by_test true yes other = yes refl
-by_test false yes other = other refl
+by_test true first second = first refl
+by_test false first second = second refl
 
 -- ---- the built subcommands
 
