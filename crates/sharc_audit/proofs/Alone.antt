@@ -1,5 +1,5 @@
 -- A text is one event line at most.
-use Rattle.sharc_audit.proofs.{Imports.{◌≡◌, inl, inr, ℕ, suc, ◌<◌, ◌≤◌, ◌^◌, Bool, cond, false, List, [], ◌∷◌, ◌++◌, length, drop, refl, ap, sym, subst, ◌∙◌, arith, or_from, or_parts, ltb-true, ℤ, pos, negsuc, nat_eq, decimal, codes, list_any, bytes_eq, CellAt, Object, Global, Made, reference, EventLine, LineAct, Text, read_on, IsNumber, thread_most, IsObject, IsPair, IsSigned, Behind, Both, HasCell, HasValue, HasReference, IsThread, IsFunctionName, IsAct, IsEventLine, AreEventLines}, Numerals.{value_back, decimal_free_above, one_cut, no_cut}, Parts.{held_small, digits_no_minus, object_free}, Blanks.{cell_blank, value_blank, name_blank, number_blank}}
+use Rattle.sharc_audit.proofs.{Imports.{◌≡◌, inl, inr, ℕ, suc, ◌<◌, ◌≤◌, ◌^◌, Bool, cond, false, List, [], ◌∷◌, ◌++◌, length, drop, refl, ap, sym, subst, ◌∙◌, arith, or_from, or_parts, ltb-true, ℤ, pos, negsuc, nat_eq, decimal, codes, list_any, bytes_eq, CellAt, Object, Global, Made, reference, EventLine, LineAct, Text, read_on, IsNumber, thread_most, IsObject, IsPair, IsSigned, Behind, Both, HasCell, HasValue, HasReference, IsThread, IsFunctionName, IsAct, IsEventLine, AreEventLines}, Numerals.{value_back, decimal_free_above, one_cut, no_cut}, Parts.{held_small, digits_no_minus, object_free}, Blanks.{word_of, cell_blank, value_blank, name_blank, number_blank}}
 
 -- ---- numbers, cells and values
 
@@ -97,22 +97,6 @@ data Shape : Type 0 where
 abbrev no_cell : CellAt
 no_cell = record { object = Global 0; cell = 0 }
 
-abbrev word_of : LineAct → Text
-word_of (LineAct.Read c v) = codes "read"
-word_of (LineAct.Write c v) = codes "write"
-word_of (LineAct.New r) = codes "new"
-word_of (LineAct.Take r) = codes "take"
-word_of (LineAct.Give r) = codes "give"
-word_of (LineAct.Freed r) = codes "freed"
-word_of (LineAct.Lock c) = codes "lock"
-word_of (LineAct.Unlock c) = codes "unlock"
-word_of (LineAct.Spawn name v n) = codes "spawn"
-word_of (LineAct.Started v) = codes "started"
-word_of (LineAct.Join n) = codes "join"
-word_of (LineAct.Print v) = codes "print"
-word_of LineAct.Return = codes "return"
-word_of LineAct.Gone = codes "gone"
-
 abbrev cell_of : LineAct → CellAt
 cell_of (LineAct.Read c v) = c
 cell_of (LineAct.Write c v) = c
@@ -160,19 +144,7 @@ made_of w c v name n =
 
 made_again : (a : LineAct) → made_of (word_of a) (cell_of a) (value_of a) (name_of a) (number_of a) ≡ a
 made_again (LineAct.Read c v) = refl
-made_again (LineAct.Write c v) = refl
-made_again (LineAct.New r) = refl
-made_again (LineAct.Take r) = refl
-made_again (LineAct.Give r) = refl
-made_again (LineAct.Freed r) = refl
-made_again (LineAct.Lock c) = refl
-made_again (LineAct.Unlock c) = refl
-made_again (LineAct.Spawn name v n) = refl
-made_again (LineAct.Started v) = refl
-made_again (LineAct.Join n) = refl
-made_again (LineAct.Print v) = refl
-made_again LineAct.Return = refl
-made_again LineAct.Gone = refl
+made_again _ = refl
 
 -- what the text after the word says
 abbrev Says : Shape → CellAt → ℤ → Text → ℤ → Text → Type 0
@@ -245,8 +217,8 @@ pub record Spelt (w text : Text) (P : Text → Type 0) : Type 0 where
   pub word : first_word text ≡ w
   pub rest : P (after_word w text)
 
-behind_spelt : (w : Text) (P Q : Text → Type 0) (text : Text) → list_any (nat_eq 32) w ≡ false → ((t : Text) → P t → Q t) → Behind w P text → Spelt w text Q
-behind_spelt w P Q text free more h = record {
+behind_spelt : {w : Text} {P : Text → Type 0} {text : Text} → Behind w P text → (Q : Text → Type 0) → list_any (nat_eq 32) w ≡ false → ((t : Text) → P t → Q t) → Spelt w text Q
+behind_spelt {w = w} {P = P} {text = text} h Q free more = record {
   word = ap first_word h.is ∙ word_first w h.rest free;
   rest = more (drop (suc (length w)) text) (subst P (sym (ap (drop (suc (length w))) h.is ∙ word_dropped w h.rest)) h.holds);
 }
@@ -255,20 +227,12 @@ abbrev AsParts : LineAct → Text → Type 0
 AsParts a text = Spelt (word_of a) text (Says (shape_of (word_of a)) (cell_of a) (value_of a) (name_of a) (number_of a))
 
 parts_of_act : (a : LineAct) (text : Text) → IsAct a text → AsParts a text
-parts_of_act (LineAct.Read c v) text h = behind_spelt (codes "read") (Both (HasCell c) (HasValue v)) _ text refl (λ t p. (p, refl, refl)) h
-parts_of_act (LineAct.Write c v) text h = behind_spelt (codes "write") (Both (HasCell c) (HasValue v)) _ text refl (λ t p. (p, refl, refl)) h
-parts_of_act (LineAct.New r) text h = behind_spelt (codes "new") (HasReference r) _ text refl (λ t p. (p, refl, refl, refl)) h
-parts_of_act (LineAct.Take r) text h = behind_spelt (codes "take") (HasReference r) _ text refl (λ t p. (p, refl, refl, refl)) h
-parts_of_act (LineAct.Give r) text h = behind_spelt (codes "give") (HasReference r) _ text refl (λ t p. (p, refl, refl, refl)) h
-parts_of_act (LineAct.Freed r) text h = behind_spelt (codes "freed") (HasReference r) _ text refl (λ t p. (p, refl, refl, refl)) h
-parts_of_act (LineAct.Lock c) text h = behind_spelt (codes "lock") (HasCell c) _ text refl (λ t p. (p, refl, refl, refl)) h
-parts_of_act (LineAct.Unlock c) text h = behind_spelt (codes "unlock") (HasCell c) _ text refl (λ t p. (p, refl, refl, refl)) h
-parts_of_act (LineAct.Spawn name v n) text h = behind_spelt (codes "spawn") (Both (IsFunctionName name) (Both (HasValue v) (IsThread n))) _ text refl (λ t p. (p, refl)) h
-parts_of_act (LineAct.Started v) text h = behind_spelt (codes "started") (HasValue v) _ text refl (λ t p. (p, refl, refl, refl)) h
-parts_of_act (LineAct.Join n) text h = behind_spelt (codes "join") (IsThread n) _ text refl (λ t p. (p, refl, refl, refl)) h
-parts_of_act (LineAct.Print v) text h = behind_spelt (codes "print") (HasValue v) _ text refl (λ t p. (p, refl, refl, refl)) h
+parts_of_act (LineAct.Read c v) text h = behind_spelt h _ refl (λ t p. (p, refl, refl))
+parts_of_act (LineAct.Write c v) text h = behind_spelt h _ refl (λ t p. (p, refl, refl))
+parts_of_act (LineAct.Spawn name v n) text h = behind_spelt h _ refl (λ t p. (p, refl))
 parts_of_act LineAct.Return text h = record { word = ap first_word h ∙ word_alone (codes "return") refl; rest = (refl, refl, refl, refl) }
 parts_of_act LineAct.Gone text h = record { word = ap first_word h ∙ word_alone (codes "gone") refl; rest = (refl, refl, refl, refl) }
+parts_of_act _ text h = behind_spelt h _ refl (λ t p. (p, refl, refl, refl))
 
 one_act : (a b : LineAct) (text : Text) → IsAct a text → IsAct b text → a ≡ b
 one_act a b text h k =

@@ -13,24 +13,15 @@ spawn_told (Some f) v answer k h = sym (ap told_in h)
 
 by_act : (r : Resolution) (a : Act) (x answer : ℤ) (k : LineAct) → written r a answer ≡ Some k → IsAnswer a x answer → told_by k ≡ answer
 by_act r (Act.Read c mode) x answer k h i = sym (ap told_in h)
-by_act r (Act.Write c mode v) x answer k h i = sym (ap told_in h) ∙ sym i
 by_act r (Act.New cells elements mode) x answer k h i = sym (ap told_in h)
 by_act r (Act.Take (Cell c mode) kind) x answer k h i = sym (ap told_in h)
 by_act r (Act.Take (Local token) kind) x answer k h i = sym (ap told_in h)
-by_act r (Act.Give reference mode) x answer k h i = sym (ap told_in h) ∙ sym i
-by_act r (Act.Freed reference) x answer k h i = sym (ap told_in h) ∙ sym i
-by_act r (Act.Lock c) x answer k h i = sym (ap told_in h) ∙ sym i
-by_act r (Act.Unlock c) x answer k h i = sym (ap told_in h) ∙ sym i
 by_act r (Act.Spawn f v) x answer k h i = spawn_told (function_at r f) v answer k h
-by_act r (Act.Started v) x answer k h i = sym (ap told_in h) ∙ sym i
-by_act r (Act.Join v) x answer k h i = sym (ap told_in h) ∙ sym i
-by_act r (Act.Print v) x answer k h i = sym (ap told_in h) ∙ sym i
-by_act r Act.Return x answer k h i = sym (ap told_in h) ∙ sym i
-by_act r Act.Gone x answer k h i = sym (ap told_in h) ∙ sym i
 by_act r (Act.Enter c) x answer k h i = absurd (cc)
 by_act r (Act.Woken c) x answer k h i = absurd (cc)
 by_act r (Act.Signal c) x answer k h i = absurd (cc)
 by_act r (Act.Broadcast c) x answer k h i = absurd (cc)
+by_act r _ x answer k h i = sym (ap told_in h) ∙ sym i
 
 pub told_is : (r : Resolution) (l : EventLine) (e : SourceEvent) (x : ℤ) → IsLine r l e → IsAnswer e.act x e.answer → told l ≡ e.answer
 told_is r l e x h i = by_act r e.act x e.answer l.act h.act i

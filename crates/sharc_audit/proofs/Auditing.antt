@@ -26,12 +26,12 @@ pub record LastLine (r : Resolution) (lines : List EventLine) (l : EventLine) (S
   pub line_is : IsLine r l event
 
 pub last_line : (r : Resolution) (lines : List EventLine) (l : EventLine) (S : List SourceEvent) → AreLines r (lines ++ l ∷ []) S → LastLine r lines l S
-last_line r [] l [] h = absurd (h)
 last_line r [] l (e ∷ []) h = record { front = []; event = e; parts = refl; lines_are = tt; line_is = h.0 }
 last_line r [] l (e ∷ (d ∷ S)) h = absurd (h.1)
-last_line r (k ∷ lines) l [] h = absurd (h)
 last_line r (k ∷ lines) l (e ∷ S) h = let p = last_line r lines l S h.1 in
     record { front = e ∷ p.front; event = p.event; parts = ap (λ z. e ∷ z) p.parts; lines_are = (h.0, p.lines_are); line_is = p.line_is }
+last_line r [] l [] h = absurd (h)
+last_line r (k ∷ lines) l [] h = absurd (h)
 
 pub lines_more : (r : Resolution) (lines : List EventLine) (l : EventLine) (R : List SourceEvent) (e : SourceEvent) → AreLines r lines R → IsLine r l e → AreLines r (lines ++ l ∷ []) (R ++ e ∷ [])
 lines_more r [] l [] e h i = (i, tt)
@@ -54,10 +54,10 @@ front_lines r (suc n) (k ∷ lines) (e ∷ S) h = let p = front_lines r n lines 
     record { front = e ∷ p.front; rest = p.rest; parts = ap (λ z. e ∷ z) p.parts; lines_are = (h.0, p.lines_are) }
 
 pub take_one : (lines : List EventLine) (place : ℕ) (l : EventLine) → slice_get lines place ≡ Some l → take (suc place) lines ≡ take place lines ++ l ∷ []
-take_one [] zero l h = absurd (cc)
-take_one [] (suc place) l h = absurd (cc)
 take_one (k ∷ lines) zero l h = let same : k ≡ l = cc in ap (λ z. z ∷ []) same
 take_one (k ∷ lines) (suc place) l h = ap (λ z. k ∷ z) (take_one lines place l h)
+take_one [] zero l h = absurd (cc)
+take_one [] (suc place) l h = absurd (cc)
 
 -- what follows a place
 pub lines_behind : (n : ℕ) (l : List EventLine) → take (length l - n) (drop n l) ≡ drop n l
@@ -74,10 +74,10 @@ at_place (k ∷ lines) (suc i) l d h e = at_place lines i l d (omega (arith, h))
 
 take_more : (lines : List EventLine) (i j : ℕ) → i ≤ j → take i (take j lines) ≡ take i lines
 take_more lines zero j h = refl
-take_more [] (suc i) zero h = refl
-take_more [] (suc i) (suc j) h = refl
 take_more (k ∷ lines) (suc i) zero h = absurd (omega (arith, h))
 take_more (k ∷ lines) (suc i) (suc j) h = ap (λ z. k ∷ z) (take_more lines i j (omega (arith, h)))
+take_more [] (suc i) zero h = refl
+take_more [] (suc i) (suc j) h = refl
 
 -- ---- runs of lines
 
@@ -150,6 +150,9 @@ module _ (ask : AskLaws) (store : StoreLaws) (runs : RunLaws) (rules : RuleLaws)
     abbrev pub first_refused : ((e : SourceEvent) → IsLine m.typed l e → AskedFor m fuel R e → MayCome m.typed R e e.act → Obeys (R ++ e ∷ []) until_return → ⊥) → IsFirstRefused m fuel lines place l
     first_refused none = record { stands = stands; before = record { events = R; lines_are = s.lines_are; run = s.run; obeys = s.obeys }; refused = refused_by none }
 
+    abbrev refused_at : (n : ℕ) → n ≡ suc place → ((e : SourceEvent) → IsLine m.typed l e → AskedFor m fuel R e → MayCome m.typed R e e.act → Obeys (R ++ e ∷ []) until_return → ⊥) → Refused m fuel lines n
+    refused_at n count none = record { place = place; line_at = l; first = first_refused none; counted = count }
+
     abbrev pub is_asked_by : (e : SourceEvent) → next_asked m fuel R l ≡ Wants e → IsLine m.typed l e → IsAsked m fuel R l
     is_asked_by e next line = record { event = e; asked = computed_asked ask m one fuel R s.run.legal s.run l e next line; line_is = line }
 
@@ -162,23 +165,13 @@ module _ (ask : AskLaws) (store : StoreLaws) (runs : RunLaws) (rules : RuleLaws)
     -- a fault that was found
     pub says_spent : (n : ℕ) → n ≡ suc place → Next_is Spent → Audits m fuel lines (Verdict.Fuel n)
     says_spent n count next = (
-      record {
-        place = place;
-        line_at = l;
-        first = first_refused (λ e line asked may obeys. let z : Spent ≡ Wants e = sym next ∙ asked_is ask m one fuel R s.run.legal l e line asked in absurd (cc));
-        counted = count;
-      },
+      refused_at n count (λ e line asked may obeys. let z : Spent ≡ Wants e = sym next ∙ asked_is ask m one fuel R s.run.legal l e line asked in absurd (cc)),
       is_spent_at ask m one fuel R s.run.legal l.thread (told l) s.run next,
     )
 
     pub says_nothing : (n : ℕ) → n ≡ suc place → Next_is Nothing → Audits m fuel lines (Verdict.Fails n EventFault.NotAsked)
     says_nothing n count next = (
-      record {
-        place = place;
-        line_at = l;
-        first = first_refused (λ e line asked may obeys. none e line asked);
-        counted = count;
-      },
+      refused_at n count (λ e line asked may obeys. none e line asked),
       record {
         unspent = λ spent. let z : Nothing ≡ Spent = sym next ∙ spent_is ask m one fuel R s.run.legal l.thread (told l) spent in absurd (cc);
         none = λ a. none a.event a.line_is a.asked;
@@ -190,12 +183,7 @@ module _ (ask : AskLaws) (store : StoreLaws) (runs : RunLaws) (rules : RuleLaws)
 
     pub says_other : (n : ℕ) (e : SourceEvent) → n ≡ suc place → Next_is (Wants e) → (IsLine m.typed l e → ⊥) → Audits m fuel lines (Verdict.Fails n EventFault.NotAsked)
     says_other n e count next other = (
-      record {
-        place = place;
-        line_at = l;
-        first = first_refused (λ d line asked may obeys. none d line asked);
-        counted = count;
-      },
+      refused_at n count (λ d line asked may obeys. none d line asked),
       record {
         unspent = λ spent. let z : Wants e ≡ Spent = sym next ∙ spent_is ask m one fuel R s.run.legal l.thread (told l) spent in absurd (cc);
         none = λ a. none a.event a.line_is a.asked;
@@ -207,23 +195,13 @@ module _ (ask : AskLaws) (store : StoreLaws) (runs : RunLaws) (rules : RuleLaws)
 
     pub says_illegal : (n : ℕ) (e : SourceEvent) → n ≡ suc place → Next_is (Wants e) → IsLine m.typed l e → (MayCome m.typed R e e.act → ⊥) → Audits m fuel lines (Verdict.Fails n EventFault.NotLegal)
     says_illegal n e count next line illegal = (
-      record {
-        place = place;
-        line_at = l;
-        first = first_refused (λ d line2 asked may obeys. illegal (subst (λ (z : SourceEvent). MayCome m.typed R z z.act) (sym (same_next e d next line2 asked)) may));
-        counted = count;
-      },
+      refused_at n count (λ d line2 asked may obeys. illegal (subst (λ (z : SourceEvent). MayCome m.typed R z z.act) (sym (same_next e d next line2 asked)) may)),
       record { asked = is_asked_by e next line; illegal = illegal },
     )
 
     pub says_against : (n : ℕ) (e : SourceEvent) (rule : Rule) → n ≡ suc place → Next_is (Wants e) → IsLine m.typed l e → MayCome m.typed R e e.act → IsLowestAt R e (Some rule) → Audits m fuel lines (Verdict.Fails n (EventFault.Rule rule))
     says_against n e rule count next line may lowest = (
-      record {
-        place = place;
-        line_at = l;
-        first = first_refused (λ d line2 asked may obeys. broken_is rules R e rule lowest (subst (λ z. Obeys (R ++ z ∷ []) until_return) (sym (same_next e d next line2 asked)) obeys));
-        counted = count;
-      },
+      refused_at n count (λ d line2 asked may obeys. broken_is rules R e rule lowest (subst (λ z. Obeys (R ++ z ∷ []) until_return) (sym (same_next e d next line2 asked)) obeys)),
       record { asked = is_asked_by e next line; legal = may; lowest = lowest_broken_last rules R e rule s.obeys lowest },
     )
 
@@ -285,8 +263,6 @@ module _ (ask : AskLaws) (store : StoreLaws) (runs : RunLaws) (rules : RuleLaws)
     one_reason : (v w : Option EventFault) → Said R l v → Said R l w → v ≡ w
     one_reason None None a b = refl
     one_reason None (Some EventFault.NotAsked) a b = absurd (b.unspent a)
-    one_reason None (Some EventFault.NotLegal) a b = absurd (spent_or_asked a b.asked)
-    one_reason None (Some (EventFault.Rule d)) a b = absurd (spent_or_asked a b.asked)
     one_reason (Some EventFault.NotAsked) None a b = absurd (a.unspent b)
     one_reason (Some EventFault.NotAsked) (Some EventFault.NotAsked) a b = refl
     one_reason (Some EventFault.NotAsked) (Some EventFault.NotLegal) a b = absurd (a.none b.asked)
@@ -299,6 +275,7 @@ module _ (ask : AskLaws) (store : StoreLaws) (runs : RunLaws) (rules : RuleLaws)
     one_reason (Some (EventFault.Rule c)) (Some EventFault.NotAsked) a b = absurd (b.none a.asked)
     one_reason (Some (EventFault.Rule c)) (Some EventFault.NotLegal) a b = absurd (illegal_or_not b c a)
     one_reason (Some (EventFault.Rule c)) (Some (EventFault.Rule d)) a b = ap (λ z. Some (EventFault.Rule z)) (one_rule c d a b)
+    one_reason None _ a b = absurd (spent_or_asked a b.asked)
 
   said_there : (lines : List EventLine) (i j : ℕ) (k l : EventLine) (R S : List SourceEvent) (v w : Option EventFault) → i ≡ j → Here lines i k R → Here lines j l S → Said R k v → Said S l w → v ≡ w
   said_there lines i j k l R S v w same a b p q =

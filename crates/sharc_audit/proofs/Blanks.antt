@@ -52,10 +52,7 @@ both_parts P Q text a b free cut h = let p = parts_of 32 text a b h.first h.seco
 pub both_cut : (P Q : Text → Type 0) (text : Text) → list_any (nat_eq 32) text ≡ false → Both P Q text → ⊥
 both_cut P Q text free h = no_cut 32 h.first h.second (sym (ap (list_any (nat_eq 32)) h.is) ∙ free)
 
-pub behind_parts : (w : Text) (P : Text → Type 0) (text a b : Text) → list_any (nat_eq 32) w ≡ false → IsCut 32 text a b → Behind w P text → (a ≡ w) × P b
-behind_parts w P text a b free cut h = let p = parts_of 32 text a b w h.rest cut h.is free in (p.0, subst P (sym p.1) h.holds)
-
-pub behind_of : (w : Text) (P : Text → Type 0) (text a b : Text) → IsCut 32 text a b → a ≡ w → P b → Behind w P text
+behind_of : (w : Text) (P : Text → Type 0) (text a b : Text) → IsCut 32 text a b → a ≡ w → P b → Behind w P text
 behind_of w P text a b cut e p = record { rest = b; is = cut.is ∙ ap (λ z. z ++ 32 ∷ b) e; holds = p }
 
 -- ---- words
@@ -63,218 +60,98 @@ behind_of w P text a b cut e p = record { rest = b; is = cut.is ∙ ap (λ z. z 
 differ : (a b : Text) → bytes_eq a b ≡ false → a ≡ b → ⊥
 differ a b d e = false≢true (sym d ∙ (bytes_eq-Decides a b).1 e)
 
+abbrev pub word_of : LineAct → Text
+word_of (LineAct.Read c v) = codes "read"
+word_of (LineAct.Write c v) = codes "write"
+word_of (LineAct.New r) = codes "new"
+word_of (LineAct.Take r) = codes "take"
+word_of (LineAct.Give r) = codes "give"
+word_of (LineAct.Freed r) = codes "freed"
+word_of (LineAct.Lock c) = codes "lock"
+word_of (LineAct.Unlock c) = codes "unlock"
+word_of (LineAct.Spawn name v n) = codes "spawn"
+word_of (LineAct.Started v) = codes "started"
+word_of (LineAct.Join n) = codes "join"
+word_of (LineAct.Print v) = codes "print"
+word_of LineAct.Return = codes "return"
+word_of LineAct.Gone = codes "gone"
+
+has_word : (kind text : Text) (a : LineAct) → IsPlain kind a text → kind ≡ word_of a
+has_word kind text (LineAct.Spawn name v n) h = absurd h
+has_word kind text LineAct.Return h = absurd h
+has_word kind text LineAct.Gone h = absurd h
+has_word kind text _ h = h.0
+
+-- no act with another word than its kind
+other_word : (kind text w : Text) (a : LineAct) → kind ≡ w → bytes_eq w (word_of a) ≡ false → IsPlain kind a text → ⊥
+other_word kind text w a e other h = differ w (word_of a) other (sym e ∙ has_word kind text a h)
+
 pub none_read : (kind text : Text) → kind ≡ codes "read" → ((c : CellAt) (v : ℤ) → Both (HasCell c) (HasValue v) text → ⊥) → (a : LineAct) → IsPlain kind a text → ⊥
 none_read kind text e none (LineAct.Read c v) h = none c v h.1
-none_read kind text e none (LineAct.Write c v) h = differ (codes "read") (codes "write") refl (sym e ∙ h.0)
-none_read kind text e none (LineAct.New r) h = differ (codes "read") (codes "new") refl (sym e ∙ h.0)
-none_read kind text e none (LineAct.Take r) h = differ (codes "read") (codes "take") refl (sym e ∙ h.0)
-none_read kind text e none (LineAct.Give r) h = differ (codes "read") (codes "give") refl (sym e ∙ h.0)
-none_read kind text e none (LineAct.Freed r) h = differ (codes "read") (codes "freed") refl (sym e ∙ h.0)
-none_read kind text e none (LineAct.Lock c) h = differ (codes "read") (codes "lock") refl (sym e ∙ h.0)
-none_read kind text e none (LineAct.Unlock c) h = differ (codes "read") (codes "unlock") refl (sym e ∙ h.0)
-none_read kind text e none (LineAct.Spawn name v n) h = h
-none_read kind text e none (LineAct.Started v) h = differ (codes "read") (codes "started") refl (sym e ∙ h.0)
-none_read kind text e none (LineAct.Join n) h = differ (codes "read") (codes "join") refl (sym e ∙ h.0)
-none_read kind text e none (LineAct.Print v) h = differ (codes "read") (codes "print") refl (sym e ∙ h.0)
-none_read kind text e none LineAct.Return h = h
-none_read kind text e none LineAct.Gone h = h
+none_read kind text e none a h = other_word kind text (codes "read") a e refl h
 
 pub none_write : (kind text : Text) → kind ≡ codes "write" → ((c : CellAt) (v : ℤ) → Both (HasCell c) (HasValue v) text → ⊥) → (a : LineAct) → IsPlain kind a text → ⊥
-none_write kind text e none (LineAct.Read c v) h = differ (codes "write") (codes "read") refl (sym e ∙ h.0)
 none_write kind text e none (LineAct.Write c v) h = none c v h.1
-none_write kind text e none (LineAct.New r) h = differ (codes "write") (codes "new") refl (sym e ∙ h.0)
-none_write kind text e none (LineAct.Take r) h = differ (codes "write") (codes "take") refl (sym e ∙ h.0)
-none_write kind text e none (LineAct.Give r) h = differ (codes "write") (codes "give") refl (sym e ∙ h.0)
-none_write kind text e none (LineAct.Freed r) h = differ (codes "write") (codes "freed") refl (sym e ∙ h.0)
-none_write kind text e none (LineAct.Lock c) h = differ (codes "write") (codes "lock") refl (sym e ∙ h.0)
-none_write kind text e none (LineAct.Unlock c) h = differ (codes "write") (codes "unlock") refl (sym e ∙ h.0)
-none_write kind text e none (LineAct.Spawn name v n) h = h
-none_write kind text e none (LineAct.Started v) h = differ (codes "write") (codes "started") refl (sym e ∙ h.0)
-none_write kind text e none (LineAct.Join n) h = differ (codes "write") (codes "join") refl (sym e ∙ h.0)
-none_write kind text e none (LineAct.Print v) h = differ (codes "write") (codes "print") refl (sym e ∙ h.0)
-none_write kind text e none LineAct.Return h = h
-none_write kind text e none LineAct.Gone h = h
+none_write kind text e none a h = other_word kind text (codes "write") a e refl h
 
 pub none_new : (kind text : Text) → kind ≡ codes "new" → ((r : ℤ) → HasReference r text → ⊥) → (a : LineAct) → IsPlain kind a text → ⊥
-none_new kind text e none (LineAct.Read c v) h = differ (codes "new") (codes "read") refl (sym e ∙ h.0)
-none_new kind text e none (LineAct.Write c v) h = differ (codes "new") (codes "write") refl (sym e ∙ h.0)
 none_new kind text e none (LineAct.New r) h = none r h.1
-none_new kind text e none (LineAct.Take r) h = differ (codes "new") (codes "take") refl (sym e ∙ h.0)
-none_new kind text e none (LineAct.Give r) h = differ (codes "new") (codes "give") refl (sym e ∙ h.0)
-none_new kind text e none (LineAct.Freed r) h = differ (codes "new") (codes "freed") refl (sym e ∙ h.0)
-none_new kind text e none (LineAct.Lock c) h = differ (codes "new") (codes "lock") refl (sym e ∙ h.0)
-none_new kind text e none (LineAct.Unlock c) h = differ (codes "new") (codes "unlock") refl (sym e ∙ h.0)
-none_new kind text e none (LineAct.Spawn name v n) h = h
-none_new kind text e none (LineAct.Started v) h = differ (codes "new") (codes "started") refl (sym e ∙ h.0)
-none_new kind text e none (LineAct.Join n) h = differ (codes "new") (codes "join") refl (sym e ∙ h.0)
-none_new kind text e none (LineAct.Print v) h = differ (codes "new") (codes "print") refl (sym e ∙ h.0)
-none_new kind text e none LineAct.Return h = h
-none_new kind text e none LineAct.Gone h = h
+none_new kind text e none a h = other_word kind text (codes "new") a e refl h
 
 pub none_take : (kind text : Text) → kind ≡ codes "take" → ((r : ℤ) → HasReference r text → ⊥) → (a : LineAct) → IsPlain kind a text → ⊥
-none_take kind text e none (LineAct.Read c v) h = differ (codes "take") (codes "read") refl (sym e ∙ h.0)
-none_take kind text e none (LineAct.Write c v) h = differ (codes "take") (codes "write") refl (sym e ∙ h.0)
-none_take kind text e none (LineAct.New r) h = differ (codes "take") (codes "new") refl (sym e ∙ h.0)
 none_take kind text e none (LineAct.Take r) h = none r h.1
-none_take kind text e none (LineAct.Give r) h = differ (codes "take") (codes "give") refl (sym e ∙ h.0)
-none_take kind text e none (LineAct.Freed r) h = differ (codes "take") (codes "freed") refl (sym e ∙ h.0)
-none_take kind text e none (LineAct.Lock c) h = differ (codes "take") (codes "lock") refl (sym e ∙ h.0)
-none_take kind text e none (LineAct.Unlock c) h = differ (codes "take") (codes "unlock") refl (sym e ∙ h.0)
-none_take kind text e none (LineAct.Spawn name v n) h = h
-none_take kind text e none (LineAct.Started v) h = differ (codes "take") (codes "started") refl (sym e ∙ h.0)
-none_take kind text e none (LineAct.Join n) h = differ (codes "take") (codes "join") refl (sym e ∙ h.0)
-none_take kind text e none (LineAct.Print v) h = differ (codes "take") (codes "print") refl (sym e ∙ h.0)
-none_take kind text e none LineAct.Return h = h
-none_take kind text e none LineAct.Gone h = h
+none_take kind text e none a h = other_word kind text (codes "take") a e refl h
 
 pub none_give : (kind text : Text) → kind ≡ codes "give" → ((r : ℤ) → HasReference r text → ⊥) → (a : LineAct) → IsPlain kind a text → ⊥
-none_give kind text e none (LineAct.Read c v) h = differ (codes "give") (codes "read") refl (sym e ∙ h.0)
-none_give kind text e none (LineAct.Write c v) h = differ (codes "give") (codes "write") refl (sym e ∙ h.0)
-none_give kind text e none (LineAct.New r) h = differ (codes "give") (codes "new") refl (sym e ∙ h.0)
-none_give kind text e none (LineAct.Take r) h = differ (codes "give") (codes "take") refl (sym e ∙ h.0)
 none_give kind text e none (LineAct.Give r) h = none r h.1
-none_give kind text e none (LineAct.Freed r) h = differ (codes "give") (codes "freed") refl (sym e ∙ h.0)
-none_give kind text e none (LineAct.Lock c) h = differ (codes "give") (codes "lock") refl (sym e ∙ h.0)
-none_give kind text e none (LineAct.Unlock c) h = differ (codes "give") (codes "unlock") refl (sym e ∙ h.0)
-none_give kind text e none (LineAct.Spawn name v n) h = h
-none_give kind text e none (LineAct.Started v) h = differ (codes "give") (codes "started") refl (sym e ∙ h.0)
-none_give kind text e none (LineAct.Join n) h = differ (codes "give") (codes "join") refl (sym e ∙ h.0)
-none_give kind text e none (LineAct.Print v) h = differ (codes "give") (codes "print") refl (sym e ∙ h.0)
-none_give kind text e none LineAct.Return h = h
-none_give kind text e none LineAct.Gone h = h
+none_give kind text e none a h = other_word kind text (codes "give") a e refl h
 
 pub none_freed : (kind text : Text) → kind ≡ codes "freed" → ((r : ℤ) → HasReference r text → ⊥) → (a : LineAct) → IsPlain kind a text → ⊥
-none_freed kind text e none (LineAct.Read c v) h = differ (codes "freed") (codes "read") refl (sym e ∙ h.0)
-none_freed kind text e none (LineAct.Write c v) h = differ (codes "freed") (codes "write") refl (sym e ∙ h.0)
-none_freed kind text e none (LineAct.New r) h = differ (codes "freed") (codes "new") refl (sym e ∙ h.0)
-none_freed kind text e none (LineAct.Take r) h = differ (codes "freed") (codes "take") refl (sym e ∙ h.0)
-none_freed kind text e none (LineAct.Give r) h = differ (codes "freed") (codes "give") refl (sym e ∙ h.0)
 none_freed kind text e none (LineAct.Freed r) h = none r h.1
-none_freed kind text e none (LineAct.Lock c) h = differ (codes "freed") (codes "lock") refl (sym e ∙ h.0)
-none_freed kind text e none (LineAct.Unlock c) h = differ (codes "freed") (codes "unlock") refl (sym e ∙ h.0)
-none_freed kind text e none (LineAct.Spawn name v n) h = h
-none_freed kind text e none (LineAct.Started v) h = differ (codes "freed") (codes "started") refl (sym e ∙ h.0)
-none_freed kind text e none (LineAct.Join n) h = differ (codes "freed") (codes "join") refl (sym e ∙ h.0)
-none_freed kind text e none (LineAct.Print v) h = differ (codes "freed") (codes "print") refl (sym e ∙ h.0)
-none_freed kind text e none LineAct.Return h = h
-none_freed kind text e none LineAct.Gone h = h
+none_freed kind text e none a h = other_word kind text (codes "freed") a e refl h
 
 pub none_lock : (kind text : Text) → kind ≡ codes "lock" → ((c : CellAt) → HasCell c text → ⊥) → (a : LineAct) → IsPlain kind a text → ⊥
-none_lock kind text e none (LineAct.Read c v) h = differ (codes "lock") (codes "read") refl (sym e ∙ h.0)
-none_lock kind text e none (LineAct.Write c v) h = differ (codes "lock") (codes "write") refl (sym e ∙ h.0)
-none_lock kind text e none (LineAct.New r) h = differ (codes "lock") (codes "new") refl (sym e ∙ h.0)
-none_lock kind text e none (LineAct.Take r) h = differ (codes "lock") (codes "take") refl (sym e ∙ h.0)
-none_lock kind text e none (LineAct.Give r) h = differ (codes "lock") (codes "give") refl (sym e ∙ h.0)
-none_lock kind text e none (LineAct.Freed r) h = differ (codes "lock") (codes "freed") refl (sym e ∙ h.0)
 none_lock kind text e none (LineAct.Lock c) h = none c h.1
-none_lock kind text e none (LineAct.Unlock c) h = differ (codes "lock") (codes "unlock") refl (sym e ∙ h.0)
-none_lock kind text e none (LineAct.Spawn name v n) h = h
-none_lock kind text e none (LineAct.Started v) h = differ (codes "lock") (codes "started") refl (sym e ∙ h.0)
-none_lock kind text e none (LineAct.Join n) h = differ (codes "lock") (codes "join") refl (sym e ∙ h.0)
-none_lock kind text e none (LineAct.Print v) h = differ (codes "lock") (codes "print") refl (sym e ∙ h.0)
-none_lock kind text e none LineAct.Return h = h
-none_lock kind text e none LineAct.Gone h = h
+none_lock kind text e none a h = other_word kind text (codes "lock") a e refl h
 
 pub none_unlock : (kind text : Text) → kind ≡ codes "unlock" → ((c : CellAt) → HasCell c text → ⊥) → (a : LineAct) → IsPlain kind a text → ⊥
-none_unlock kind text e none (LineAct.Read c v) h = differ (codes "unlock") (codes "read") refl (sym e ∙ h.0)
-none_unlock kind text e none (LineAct.Write c v) h = differ (codes "unlock") (codes "write") refl (sym e ∙ h.0)
-none_unlock kind text e none (LineAct.New r) h = differ (codes "unlock") (codes "new") refl (sym e ∙ h.0)
-none_unlock kind text e none (LineAct.Take r) h = differ (codes "unlock") (codes "take") refl (sym e ∙ h.0)
-none_unlock kind text e none (LineAct.Give r) h = differ (codes "unlock") (codes "give") refl (sym e ∙ h.0)
-none_unlock kind text e none (LineAct.Freed r) h = differ (codes "unlock") (codes "freed") refl (sym e ∙ h.0)
-none_unlock kind text e none (LineAct.Lock c) h = differ (codes "unlock") (codes "lock") refl (sym e ∙ h.0)
 none_unlock kind text e none (LineAct.Unlock c) h = none c h.1
-none_unlock kind text e none (LineAct.Spawn name v n) h = h
-none_unlock kind text e none (LineAct.Started v) h = differ (codes "unlock") (codes "started") refl (sym e ∙ h.0)
-none_unlock kind text e none (LineAct.Join n) h = differ (codes "unlock") (codes "join") refl (sym e ∙ h.0)
-none_unlock kind text e none (LineAct.Print v) h = differ (codes "unlock") (codes "print") refl (sym e ∙ h.0)
-none_unlock kind text e none LineAct.Return h = h
-none_unlock kind text e none LineAct.Gone h = h
+none_unlock kind text e none a h = other_word kind text (codes "unlock") a e refl h
 
 pub none_started : (kind text : Text) → kind ≡ codes "started" → ((v : ℤ) → HasValue v text → ⊥) → (a : LineAct) → IsPlain kind a text → ⊥
-none_started kind text e none (LineAct.Read c v) h = differ (codes "started") (codes "read") refl (sym e ∙ h.0)
-none_started kind text e none (LineAct.Write c v) h = differ (codes "started") (codes "write") refl (sym e ∙ h.0)
-none_started kind text e none (LineAct.New r) h = differ (codes "started") (codes "new") refl (sym e ∙ h.0)
-none_started kind text e none (LineAct.Take r) h = differ (codes "started") (codes "take") refl (sym e ∙ h.0)
-none_started kind text e none (LineAct.Give r) h = differ (codes "started") (codes "give") refl (sym e ∙ h.0)
-none_started kind text e none (LineAct.Freed r) h = differ (codes "started") (codes "freed") refl (sym e ∙ h.0)
-none_started kind text e none (LineAct.Lock c) h = differ (codes "started") (codes "lock") refl (sym e ∙ h.0)
-none_started kind text e none (LineAct.Unlock c) h = differ (codes "started") (codes "unlock") refl (sym e ∙ h.0)
-none_started kind text e none (LineAct.Spawn name v n) h = h
 none_started kind text e none (LineAct.Started v) h = none v h.1
-none_started kind text e none (LineAct.Join n) h = differ (codes "started") (codes "join") refl (sym e ∙ h.0)
-none_started kind text e none (LineAct.Print v) h = differ (codes "started") (codes "print") refl (sym e ∙ h.0)
-none_started kind text e none LineAct.Return h = h
-none_started kind text e none LineAct.Gone h = h
+none_started kind text e none a h = other_word kind text (codes "started") a e refl h
 
 pub none_print : (kind text : Text) → kind ≡ codes "print" → ((v : ℤ) → HasValue v text → ⊥) → (a : LineAct) → IsPlain kind a text → ⊥
-none_print kind text e none (LineAct.Read c v) h = differ (codes "print") (codes "read") refl (sym e ∙ h.0)
-none_print kind text e none (LineAct.Write c v) h = differ (codes "print") (codes "write") refl (sym e ∙ h.0)
-none_print kind text e none (LineAct.New r) h = differ (codes "print") (codes "new") refl (sym e ∙ h.0)
-none_print kind text e none (LineAct.Take r) h = differ (codes "print") (codes "take") refl (sym e ∙ h.0)
-none_print kind text e none (LineAct.Give r) h = differ (codes "print") (codes "give") refl (sym e ∙ h.0)
-none_print kind text e none (LineAct.Freed r) h = differ (codes "print") (codes "freed") refl (sym e ∙ h.0)
-none_print kind text e none (LineAct.Lock c) h = differ (codes "print") (codes "lock") refl (sym e ∙ h.0)
-none_print kind text e none (LineAct.Unlock c) h = differ (codes "print") (codes "unlock") refl (sym e ∙ h.0)
-none_print kind text e none (LineAct.Spawn name v n) h = h
-none_print kind text e none (LineAct.Started v) h = differ (codes "print") (codes "started") refl (sym e ∙ h.0)
-none_print kind text e none (LineAct.Join n) h = differ (codes "print") (codes "join") refl (sym e ∙ h.0)
 none_print kind text e none (LineAct.Print v) h = none v h.1
-none_print kind text e none LineAct.Return h = h
-none_print kind text e none LineAct.Gone h = h
+none_print kind text e none a h = other_word kind text (codes "print") a e refl h
 
 -- ---- acts
 
+-- the word before the first blank, and what follows it
+cut_parts : {w : Text} {P : Text → Type 0} {text kind rest : Text} → IsCut 32 text kind rest → Behind w P text → list_any (nat_eq 32) w ≡ false → (kind ≡ w) × P rest
+cut_parts {w = w} {P = P} {text = text} {kind = kind} {rest = rest} cut h free = let p = parts_of 32 text kind rest w h.rest cut h.is free in (p.0, subst P (sym p.1) h.holds)
+
 pub act_of : (text kind rest : Text) → IsCut 32 text kind rest → (a : LineAct) → IsPlain kind a rest → IsAct a text
-act_of text kind rest cut (LineAct.Read c v) h = behind_of (codes "read") (Both (HasCell c) (HasValue v)) text kind rest cut h.0 h.1
-act_of text kind rest cut (LineAct.Write c v) h = behind_of (codes "write") (Both (HasCell c) (HasValue v)) text kind rest cut h.0 h.1
-act_of text kind rest cut (LineAct.New r) h = behind_of (codes "new") (HasReference r) text kind rest cut h.0 h.1
-act_of text kind rest cut (LineAct.Take r) h = behind_of (codes "take") (HasReference r) text kind rest cut h.0 h.1
-act_of text kind rest cut (LineAct.Give r) h = behind_of (codes "give") (HasReference r) text kind rest cut h.0 h.1
-act_of text kind rest cut (LineAct.Freed r) h = behind_of (codes "freed") (HasReference r) text kind rest cut h.0 h.1
-act_of text kind rest cut (LineAct.Lock c) h = behind_of (codes "lock") (HasCell c) text kind rest cut h.0 h.1
-act_of text kind rest cut (LineAct.Unlock c) h = behind_of (codes "unlock") (HasCell c) text kind rest cut h.0 h.1
 act_of text kind rest cut (LineAct.Spawn name v n) h = absurd h
-act_of text kind rest cut (LineAct.Started v) h = behind_of (codes "started") (HasValue v) text kind rest cut h.0 h.1
-act_of text kind rest cut (LineAct.Join n) h = behind_of (codes "join") (IsThread n) text kind rest cut h.0 h.1
-act_of text kind rest cut (LineAct.Print v) h = behind_of (codes "print") (HasValue v) text kind rest cut h.0 h.1
 act_of text kind rest cut LineAct.Return h = absurd h
 act_of text kind rest cut LineAct.Gone h = absurd h
+act_of text kind rest cut _ h = behind_of _ _ text kind rest cut h.0 h.1
 
 pub spawn_of : (text kind rest name : Text) (v n : ℤ) → IsCut 32 text kind rest → kind ≡ codes "spawn" → Both (IsFunctionName name) (Both (HasValue v) (IsThread n)) rest → IsAct (LineAct.Spawn name v n) text
 spawn_of text kind rest name v n cut e h = behind_of (codes "spawn") (Both (IsFunctionName name) (Both (HasValue v) (IsThread n))) text kind rest cut e h
 
 pub no_act_spawn : (text kind rest : Text) → (text ≡ codes "return" → ⊥) → (text ≡ codes "gone" → ⊥) → IsCut 32 text kind rest → kind ≡ codes "spawn" → ((name : Text) (v n : ℤ) → Both (IsFunctionName name) (Both (HasValue v) (IsThread n)) rest → ⊥) → (a : LineAct) → IsAct a text → ⊥
-no_act_spawn text kind rest no_return no_gone cut e none (LineAct.Read c v) h = differ (codes "spawn") (codes "read") refl (sym e ∙ (behind_parts (codes "read") (Both (HasCell c) (HasValue v)) text kind rest refl cut h).0)
-no_act_spawn text kind rest no_return no_gone cut e none (LineAct.Write c v) h = differ (codes "spawn") (codes "write") refl (sym e ∙ (behind_parts (codes "write") (Both (HasCell c) (HasValue v)) text kind rest refl cut h).0)
-no_act_spawn text kind rest no_return no_gone cut e none (LineAct.New r) h = differ (codes "spawn") (codes "new") refl (sym e ∙ (behind_parts (codes "new") (HasReference r) text kind rest refl cut h).0)
-no_act_spawn text kind rest no_return no_gone cut e none (LineAct.Take r) h = differ (codes "spawn") (codes "take") refl (sym e ∙ (behind_parts (codes "take") (HasReference r) text kind rest refl cut h).0)
-no_act_spawn text kind rest no_return no_gone cut e none (LineAct.Give r) h = differ (codes "spawn") (codes "give") refl (sym e ∙ (behind_parts (codes "give") (HasReference r) text kind rest refl cut h).0)
-no_act_spawn text kind rest no_return no_gone cut e none (LineAct.Freed r) h = differ (codes "spawn") (codes "freed") refl (sym e ∙ (behind_parts (codes "freed") (HasReference r) text kind rest refl cut h).0)
-no_act_spawn text kind rest no_return no_gone cut e none (LineAct.Lock c) h = differ (codes "spawn") (codes "lock") refl (sym e ∙ (behind_parts (codes "lock") (HasCell c) text kind rest refl cut h).0)
-no_act_spawn text kind rest no_return no_gone cut e none (LineAct.Unlock c) h = differ (codes "spawn") (codes "unlock") refl (sym e ∙ (behind_parts (codes "unlock") (HasCell c) text kind rest refl cut h).0)
-no_act_spawn text kind rest no_return no_gone cut e none (LineAct.Spawn name v n) h = none name v n (behind_parts (codes "spawn") (Both (IsFunctionName name) (Both (HasValue v) (IsThread n))) text kind rest refl cut h).1
-no_act_spawn text kind rest no_return no_gone cut e none (LineAct.Started v) h = differ (codes "spawn") (codes "started") refl (sym e ∙ (behind_parts (codes "started") (HasValue v) text kind rest refl cut h).0)
-no_act_spawn text kind rest no_return no_gone cut e none (LineAct.Join n) h = differ (codes "spawn") (codes "join") refl (sym e ∙ (behind_parts (codes "join") (IsThread n) text kind rest refl cut h).0)
-no_act_spawn text kind rest no_return no_gone cut e none (LineAct.Print v) h = differ (codes "spawn") (codes "print") refl (sym e ∙ (behind_parts (codes "print") (HasValue v) text kind rest refl cut h).0)
+no_act_spawn text kind rest no_return no_gone cut e none (LineAct.Spawn name v n) h = none name v n (cut_parts cut h refl).1
 no_act_spawn text kind rest no_return no_gone cut e none LineAct.Return h = no_return h
 no_act_spawn text kind rest no_return no_gone cut e none LineAct.Gone h = no_gone h
+no_act_spawn text kind rest no_return no_gone cut e none a h = differ (codes "spawn") (word_of a) refl (sym e ∙ (cut_parts cut h refl).0)
 
 pub no_act_plain : (text kind rest : Text) → (text ≡ codes "return" → ⊥) → (text ≡ codes "gone" → ⊥) → IsCut 32 text kind rest → (kind ≡ codes "spawn" → ⊥) → ((a : LineAct) → IsPlain kind a rest → ⊥) → (a : LineAct) → IsAct a text → ⊥
-no_act_plain text kind rest no_return no_gone cut no_spawn none (LineAct.Read c v) h = none (LineAct.Read c v) (behind_parts (codes "read") (Both (HasCell c) (HasValue v)) text kind rest refl cut h)
-no_act_plain text kind rest no_return no_gone cut no_spawn none (LineAct.Write c v) h = none (LineAct.Write c v) (behind_parts (codes "write") (Both (HasCell c) (HasValue v)) text kind rest refl cut h)
-no_act_plain text kind rest no_return no_gone cut no_spawn none (LineAct.New r) h = none (LineAct.New r) (behind_parts (codes "new") (HasReference r) text kind rest refl cut h)
-no_act_plain text kind rest no_return no_gone cut no_spawn none (LineAct.Take r) h = none (LineAct.Take r) (behind_parts (codes "take") (HasReference r) text kind rest refl cut h)
-no_act_plain text kind rest no_return no_gone cut no_spawn none (LineAct.Give r) h = none (LineAct.Give r) (behind_parts (codes "give") (HasReference r) text kind rest refl cut h)
-no_act_plain text kind rest no_return no_gone cut no_spawn none (LineAct.Freed r) h = none (LineAct.Freed r) (behind_parts (codes "freed") (HasReference r) text kind rest refl cut h)
-no_act_plain text kind rest no_return no_gone cut no_spawn none (LineAct.Lock c) h = none (LineAct.Lock c) (behind_parts (codes "lock") (HasCell c) text kind rest refl cut h)
-no_act_plain text kind rest no_return no_gone cut no_spawn none (LineAct.Unlock c) h = none (LineAct.Unlock c) (behind_parts (codes "unlock") (HasCell c) text kind rest refl cut h)
-no_act_plain text kind rest no_return no_gone cut no_spawn none (LineAct.Spawn name v n) h = no_spawn (behind_parts (codes "spawn") (Both (IsFunctionName name) (Both (HasValue v) (IsThread n))) text kind rest refl cut h).0
-no_act_plain text kind rest no_return no_gone cut no_spawn none (LineAct.Started v) h = none (LineAct.Started v) (behind_parts (codes "started") (HasValue v) text kind rest refl cut h)
-no_act_plain text kind rest no_return no_gone cut no_spawn none (LineAct.Join n) h = none (LineAct.Join n) (behind_parts (codes "join") (IsThread n) text kind rest refl cut h)
-no_act_plain text kind rest no_return no_gone cut no_spawn none (LineAct.Print v) h = none (LineAct.Print v) (behind_parts (codes "print") (HasValue v) text kind rest refl cut h)
+no_act_plain text kind rest no_return no_gone cut no_spawn none (LineAct.Spawn name v n) h = no_spawn (cut_parts cut h refl).0
 no_act_plain text kind rest no_return no_gone cut no_spawn none LineAct.Return h = no_return h
 no_act_plain text kind rest no_return no_gone cut no_spawn none LineAct.Gone h = no_gone h
+no_act_plain text kind rest no_return no_gone cut no_spawn none a h = none a (cut_parts cut h refl)
 
 pub act_by : (text kind rest : Text) → (text ≡ codes "return" → ⊥) → (text ≡ codes "gone" → ⊥) → IsCut 32 text kind rest → (kind ≡ codes "spawn" → ⊥) → (r : Option LineAct) → MatchOption r ((a : LineAct) → IsPlain kind a rest → ⊥) (λ a. IsPlain kind a rest) → MatchOption r ((a : LineAct) → IsAct a text → ⊥) (λ a. IsAct a text)
 act_by text kind rest no_return no_gone cut no_spawn None h = no_act_plain text kind rest no_return no_gone cut no_spawn h

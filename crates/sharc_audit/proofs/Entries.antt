@@ -1,15 +1,14 @@
 -- The function and the argument of a thread, after the events of a legal store.
-use Rattle.sharc_audit.proofs.{Imports.{◌≡◌, ◌⊎◌, inl, inr, ℕ, zero, suc, ◌+◌, Bool, true, false, cond, List, [], ◌∷◌, ◌++◌, length, length-append, Option, Some, None, refl, ap, sym, subst, ◌∙◌, arith, append_assoc, eq-eqb, eqb-true, ne_eqb, and_parts, ℤ, pos, ◌≢◌, ◌==◌, ◌||◌, ◌&&◌, slice_get, find, drop, slice_index_or, negsuc, Any, codes, IsTrue, if◌then◌else◌, bytes_eq, Act, SourceEvent, Function, Resolution, function_at, functions_in, Assignment, events_of, is_of, answers_of, is_named_main, IsFirst, IsSpawned, Follows, spawns, is_natural, was_spawned, is_spawn, IsNewThread, MayCome, LegalStore, main_from, main_of, with_zero, spawned_with, spawned_by_event, entry, has_begun, own_answers, OneMain, find_none}, Lists.events_append}
+use Rattle.sharc_audit.proofs.{Imports.{cases_Bool, ◌≡◌, ◌⊎◌, inl, inr, ℕ, zero, suc, ◌+◌, Bool, true, false, cond, List, [], ◌∷◌, ◌++◌, length, length-append, Option, Some, None, refl, ap, sym, subst, ◌∙◌, arith, append_assoc, eq-eqb, eqb-true, ne_eqb, and_parts, ℤ, pos, ◌≢◌, ◌==◌, ◌||◌, ◌&&◌, slice_get, find, drop, slice_index_or, negsuc, Any, codes, IsTrue, if◌then◌else◌, bytes_eq, Act, SourceEvent, Function, Resolution, function_at, functions_in, Assignment, events_of, is_of, answers_of, is_named_main, IsFirst, IsSpawned, Follows, spawns, is_natural, was_spawned, is_spawn, IsNewThread, MayCome, LegalStore, main_from, main_of, with_zero, spawned_with, spawned_by_event, entry, has_begun, own_answers, OneMain, find_none}, Lists.events_append}
 
 -- ---- finding
 
 pub find_more : {A : Type 0} (p : A → Bool) (x : A) (xs ys : List A) → find p xs ≡ Some x → find p (xs ++ ys) ≡ Some x
 find_more p x [] ys h = absurd (cc)
-find_more p x (y ∷ xs) ys h = by_case (find_more p x xs ys) (p y) refl
-  where
-    by_case : (find p xs ≡ Some x → find p (xs ++ ys) ≡ Some x) → (b : Bool) → p y ≡ b → (if p y then Some y else find p (xs ++ ys)) ≡ Some x
-    by_case more true i = ap (λ z. if z then Some y else find p (xs ++ ys)) i ∙ (sym (ap (λ z. if z then Some y else find p xs) i) ∙ h)
-    by_case more false i = ap (λ z. if z then Some y else find p (xs ++ ys)) i ∙ more (sym (ap (λ z. if z then Some y else find p xs) i) ∙ h)
+find_more p x (y ∷ xs) ys h = elim (cases_Bool (p y)) [
+  | inl i ↦ ap (λ z. if z then Some y else find p (xs ++ ys)) i ∙ (sym (ap (λ z. if z then Some y else find p xs) i) ∙ h)
+  | inr i ↦ ap (λ z. if z then Some y else find p (xs ++ ys)) i ∙ (find_more p x xs ys) (sym (ap (λ z. if z then Some y else find p xs) i) ∙ h)
+]
 
 -- an element with a property is at some place
 pub record Placed {A : Type 0} (P : A → Type 0) (xs : List A) : Type 0 where
@@ -24,13 +23,12 @@ behind_one y xs i = record { before = y ∷ i.before; element = i.element; after
 
 pub found : {A : Type 0} (p : A → Bool) (x : A) (xs : List A) → find p xs ≡ Some x → Placed (λ y. (y ≡ x) × (p y ≡ true)) xs
 found p x [] h = absurd (cc)
-found {A} p x (y ∷ xs) h = by_case (found p x xs) (p y) refl
-  where
-    by_case : (find p xs ≡ Some x → Placed (λ y. (y ≡ x) × (p y ≡ true)) xs) → (b : Bool) → p y ≡ b → Placed (λ y. (y ≡ x) × (p y ≡ true)) (y ∷ xs)
-    by_case more true i =
-        let same : y ≡ x = let s : Some y ≡ Some x = sym (ap (λ z. if z then Some y else find p xs) i) ∙ h in cc in
-        record { before = []; element = y; after = xs; stands = refl; is = (same, i) }
-    by_case more false i = behind_one y xs (more (sym (ap (λ z. if z then Some y else find p xs) i) ∙ h))
+found {A} p x (y ∷ xs) h = elim (cases_Bool (p y)) [
+  | inl i ↦
+      let same : y ≡ x = let s : Some y ≡ Some x = sym (ap (λ z. if z then Some y else find p xs) i) ∙ h in cc in
+      record { before = []; element = y; after = xs; stands = refl; is = (same, i) }
+  | inr i ↦ behind_one y xs ((found p x xs) (sym (ap (λ z. if z then Some y else find p xs) i) ∙ h))
+]
 
 pub placed : {A : Type 0} (P : A → Type 0) (xs : List A) → Any P xs → Placed P xs
 placed P [] (k, x, less, at, is) = absurd (omega (arith, less))
@@ -69,23 +67,7 @@ pair_of_some g f w v h = (ap first_of_pair h, ap second_of_pair h)
 
 by_spawn : (a : Act) (f : ℕ) (v : ℤ) → spawned_with a ≡ Some (f, v) → a ≡ Act.Spawn f v
 by_spawn (Act.Spawn g w) f v h = let p = pair_of_some g f w v h in ap (λ z. Act.Spawn z w) p.0 ∙ ap (Act.Spawn f) p.1
-by_spawn (Act.Read c mode) f v h = absurd (cc)
-by_spawn (Act.Write c mode w) f v h = absurd (cc)
-by_spawn (Act.New cells elements mode) f v h = absurd (cc)
-by_spawn (Act.Take taken kind) f v h = absurd (cc)
-by_spawn (Act.Give reference mode) f v h = absurd (cc)
-by_spawn (Act.Freed reference) f v h = absurd (cc)
-by_spawn (Act.Lock c) f v h = absurd (cc)
-by_spawn (Act.Unlock c) f v h = absurd (cc)
-by_spawn (Act.Started w) f v h = absurd (cc)
-by_spawn (Act.Join w) f v h = absurd (cc)
-by_spawn (Act.Print w) f v h = absurd (cc)
-by_spawn Act.Return f v h = absurd (cc)
-by_spawn Act.Gone f v h = absurd (cc)
-by_spawn (Act.Enter c) f v h = absurd (cc)
-by_spawn (Act.Woken c) f v h = absurd (cc)
-by_spawn (Act.Signal c) f v h = absurd (cc)
-by_spawn (Act.Broadcast c) f v h = absurd (cc)
+by_spawn _ f v h = absurd (cc)
 
 module _ (r : Resolution) (R : List SourceEvent) (legal : LegalStore r R) (thread f : ℕ) (v : ℤ) where
   new_thread : (p : Placed (SpawnedBy thread f v) R) → was_spawned p.before thread ≡ false
@@ -106,8 +88,6 @@ pub record MainAt (n : ℕ) (functions : List Function) : Type 0 where
   pub named : IsTrue (is_named_main (slice_get functions place))
 
 pub main_found : (n : ℕ) (functions : List Function) (k : ℕ) → IsTrue (is_named_main (slice_get functions k)) → MainAt n functions
-main_found n [] zero h = absurd (cc)
-main_found n [] (suc k) h = absurd (cc)
 main_found n (f ∷ rest) k h = by_case k h (main_found (n + 1) rest) (bytes_eq f.name.text (codes "main")) refl
   where
     by_case : (k : ℕ) → IsTrue (is_named_main (slice_get (f ∷ rest) k)) → ((k : ℕ) → IsTrue (is_named_main (slice_get rest k)) → MainAt (n + 1) rest) → (b : Bool) → bytes_eq f.name.text (codes "main") ≡ b → MainAt n (f ∷ rest)
@@ -115,14 +95,15 @@ main_found n (f ∷ rest) k h = by_case k h (main_found (n + 1) rest) (bytes_eq 
     by_case zero h more false i = absurd (let z : true ≡ false = sym h ∙ i in cc)
     by_case (suc k) h more false i = let p = more k h in
         record { place = suc p.place; is = ap (λ z. if z then Some n else main_from (n + 1) rest) i ∙ p.is ∙ ap Some (omega arith); named = p.named }
+main_found n [] zero h = absurd (cc)
+main_found n [] (suc k) h = absurd (cc)
 
 pub main_is : (n : ℕ) (functions : List Function) (g : ℕ) → main_from n functions ≡ Some g → (place : ℕ) × (g ≡ n + place) × IsTrue (is_named_main (slice_get functions place))
 main_is n [] g h = absurd (cc)
-main_is n (f ∷ rest) g h = by_case (main_is (n + 1) rest g) (bytes_eq f.name.text (codes "main")) refl
-  where
-    by_case : (main_from (n + 1) rest ≡ Some g → (place : ℕ) × (g ≡ (n + 1) + place) × IsTrue (is_named_main (slice_get rest place))) → (b : Bool) → bytes_eq f.name.text (codes "main") ≡ b → (place : ℕ) × (g ≡ n + place) × IsTrue (is_named_main (slice_get (f ∷ rest) place))
-    by_case more true i = let s : Some n ≡ Some g = sym (ap (λ z. if z then Some n else main_from (n + 1) rest) i) ∙ h in let same : n ≡ g = cc in (0, omega (arith, same), i)
-    by_case more false i = let p = more (sym (ap (λ z. if z then Some n else main_from (n + 1) rest) i) ∙ h) in (suc p.0, (let e = p.1 in omega (arith, e)), p.2)
+main_is n (f ∷ rest) g h = elim (cases_Bool (bytes_eq f.name.text (codes "main"))) [
+  | inl i ↦ let s : Some n ≡ Some g = sym (ap (λ z. if z then Some n else main_from (n + 1) rest) i) ∙ h in let same : n ≡ g = cc in (0, omega (arith, same), i)
+  | inr i ↦ let p = (main_is (n + 1) rest g) (sym (ap (λ z. if z then Some n else main_from (n + 1) rest) i) ∙ h) in (suc p.0, (let e = p.1 in omega (arith, e)), p.2)
+]
 
 -- ---- the entry of a thread
 
@@ -171,11 +152,10 @@ module _ (r : Resolution) (one : OneMain r) (R : List SourceEvent) (legal : Lega
           record { other = other; spawned = subst (Any (SpawnedBy thread f v)) (sym p.stands) (any_placed (SpawnedBy thread f v) p.before p.element p.after (act, natural_is thread p.element.answer parts.1)) }
 
   pub right_by_entry : entry r R thread ≡ Some (f, v) → IsFirst r thread f v ⊎ IsSpawned R thread f v
-  right_by_entry h = by_case (thread == 0) refl
-    where
-      by_case : (b : Bool) → (thread == 0) ≡ b → IsFirst r thread f v ⊎ IsSpawned R thread f v
-      by_case true i = inl (first_of (eqb-true thread 0 i) (sym (ap chosen i) ∙ h))
-      by_case false i = inr (spawned_of (λ z. let t : true ≡ false = sym (eq-eqb thread 0 z) ∙ i in absurd (cc)) (sym (ap chosen i) ∙ h))
+  right_by_entry h = elim (cases_Bool (thread == 0)) [
+    | inl i ↦ inl (first_of (eqb-true thread 0 i) (sym (ap chosen i) ∙ h))
+    | inr i ↦ inr (spawned_of (λ z. let t : true ≡ false = sym (eq-eqb thread 0 z) ∙ i in absurd (cc)) (sym (ap chosen i) ∙ h))
+  ]
 
 -- it stays
 pub entry_more : (r : Resolution) (R S : List SourceEvent) (thread f : ℕ) (v : ℤ) → entry r R thread ≡ Some (f, v) → entry r (R ++ S) thread ≡ Some (f, v)
@@ -194,19 +174,17 @@ entry_more r R S thread f v h = by_case (thread == 0) refl
 
 pub begun_events : (R : List SourceEvent) (thread : ℕ) → has_begun R thread ≡ false → events_of thread R ≡ []
 begun_events [] thread h = refl
-begun_events (e ∷ R) thread h = by_case (begun_events R thread) (is_of thread e) refl
-  where
-    by_case : (has_begun R thread ≡ false → events_of thread R ≡ []) → (b : Bool) → is_of thread e ≡ b → cond (is_of thread e) (e ∷ events_of thread R) (events_of thread R) ≡ []
-    by_case more true i = absurd (let z : true ≡ false = sym (ap (λ z. z || has_begun R thread) i) ∙ h in cc)
-    by_case more false i = ap (λ z. cond z (e ∷ events_of thread R) (events_of thread R)) i ∙ more (sym (ap (λ z. z || has_begun R thread) i) ∙ h)
+begun_events (e ∷ R) thread h = elim (cases_Bool (is_of thread e)) [
+  | inl i ↦ absurd (let z : true ≡ false = sym (ap (λ z. z || has_begun R thread) i) ∙ h in cc)
+  | inr i ↦ ap (λ z. cond z (e ∷ events_of thread R) (events_of thread R)) i ∙ (begun_events R thread) (sym (ap (λ z. z || has_begun R thread) i) ∙ h)
+]
 
 pub events_begun : (R : List SourceEvent) (thread : ℕ) → events_of thread R ≡ [] → has_begun R thread ≡ false
 events_begun [] thread h = refl
-events_begun (e ∷ R) thread h = by_case (events_begun R thread) (is_of thread e) refl
-  where
-    by_case : (events_of thread R ≡ [] → has_begun R thread ≡ false) → (b : Bool) → is_of thread e ≡ b → (is_of thread e || has_begun R thread) ≡ false
-    by_case more true i = absurd (let z : e ∷ events_of thread R ≡ [] = sym (ap (λ z. cond z (e ∷ events_of thread R) (events_of thread R)) i) ∙ h in cc)
-    by_case more false i = ap (λ z. z || has_begun R thread) i ∙ more (sym (ap (λ z. cond z (e ∷ events_of thread R) (events_of thread R)) i) ∙ h)
+events_begun (e ∷ R) thread h = elim (cases_Bool (is_of thread e)) [
+  | inl i ↦ absurd (let z : e ∷ events_of thread R ≡ [] = sym (ap (λ z. cond z (e ∷ events_of thread R) (events_of thread R)) i) ∙ h in cc)
+  | inr i ↦ ap (λ z. z || has_begun R thread) i ∙ (events_begun R thread) (sym (ap (λ z. cond z (e ∷ events_of thread R) (events_of thread R)) i) ∙ h)
+]
 
 module _ (m : Assignment) (R : List SourceEvent) (fuel thread : ℕ) (a : Follows m R fuel thread) where
   pub own_events : events_of thread R ≡ a.begins ∷ events_of thread a.after
@@ -218,11 +196,7 @@ module _ (m : Assignment) (R : List SourceEvent) (fuel thread : ℕ) (a : Follow
   own_told = ap (λ l. answers_of (drop 1 l)) own_events
 
   pub follows_begun : has_begun R thread ≡ true
-  follows_begun = by_case (has_begun R thread) refl
-    where
-      by_case : (b : Bool) → has_begun R thread ≡ b → has_begun R thread ≡ true
-      by_case true i = i
-      by_case false i = absurd (let z : a.begins ∷ events_of thread a.after ≡ [] = sym own_events ∙ begun_events R thread i in cc)
+  follows_begun = elim (cases_Bool (has_begun R thread)) [ inl i ↦ i | inr i ↦ absurd (let z : a.begins ∷ events_of thread a.after ≡ [] = sym own_events ∙ begun_events R thread i in cc) ]
 
   pub follows_entry : OneMain m.typed → LegalStore m.typed R → entry m.typed R thread ≡ Some (a.function, a.argument)
   follows_entry one legal = entry_by_right m.typed one R legal thread a.function a.argument a.before (a.begins ∷ a.after) a.stands a.by_right

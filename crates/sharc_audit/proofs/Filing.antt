@@ -1,5 +1,5 @@
 -- Event files, read line by line.
-use Rattle.sharc_audit.proofs.{Imports.{◌≡◌, inl, inr, ℕ, suc, ◌+◌, ◌-◌, ◌<◌, ◌≤◌, Bool, cond, true, false, List, [], ◌∷◌, ◌++◌, length, length-append, take, drop, All, refl, ap, sym, subst, ◌∙◌, arith, append_assoc, or_parts, false≢true, All-push, All-head, All-tail, Option, Some, None, MatchOption, nat_eq, codes, list_any, slice_split, join_with_byte, onto_first, EventLine, FileFault, Text, IsCut, IsNumber, mark, without_empty_end, text_lines, AreEventLines, IsEventLine, IsEventFile, Continues, IsFirstBad, HasMany, IsFirstLine, IsNoHeader, IsHead, IsBadEvent, IsEventsFault, length_push}, Numerals.is_decimal}
+use Rattle.sharc_audit.proofs.{Imports.{append-nil, ◌≡◌, inl, inr, ℕ, suc, ◌+◌, ◌-◌, ◌<◌, ◌≤◌, Bool, cond, true, false, List, [], ◌∷◌, ◌++◌, length, length-append, take, drop, All, refl, ap, sym, subst, ◌∙◌, arith, append_assoc, or_parts, false≢true, All-push, All-head, All-tail, Option, Some, None, MatchOption, nat_eq, codes, list_any, slice_split, join_with_byte, onto_first, EventLine, FileFault, Text, IsCut, IsNumber, mark, without_empty_end, text_lines, AreEventLines, IsEventLine, IsEventFile, Continues, IsFirstBad, HasMany, IsFirstLine, IsNoHeader, IsHead, IsBadEvent, IsEventsFault, length_push}, Numerals.is_decimal}
 use Rattle.sharc_audit.specs.Files.{IsFault}
 
 -- ---- a line
@@ -86,21 +86,26 @@ length_more : {X : Type 0} (a : List X) (x : X) (b : List X) → length a < leng
 length_more [] x b = omega arith
 length_more (y ∷ a) x b = let h = length_more a x b in omega (arith, h)
 
-pub append_none : {X : Type 0} (a : List X) → a ++ [] ≡ a
-append_none [] = refl
-append_none (x ∷ a) = ap (λ z. x ∷ z) (append_none a)
-
 -- ---- the header
 
 pub no_plain_mark : (h : Text) → IsNoHeader (mark ++ h) → ⊥
 no_plain_mark h e = false≢true (sym e)
 
--- of two places of a header one comes before the other, and neither does
-pub one_header : (a b : List Text) (h : Text) (c d : List Text) (t : Text) → All IsNoHeader a → All IsNoHeader b → a ++ (mark ++ h) ∷ c ≡ b ++ (mark ++ t) ∷ d → c ≡ d
-one_header [] [] h c d t p q e = let z : c ≡ d = cc in z
+-- two texts cut at a header: neither header comes before the other, and the parts are the same
+pub record OneHeader (a b : List Text) (h : Text) (c d : List Text) (t : Text) : Type 0 where
+  pub before : a ≡ b
+  pub header : mark ++ h ≡ mark ++ t
+  pub behind : c ≡ d
+
+pub one_header : (a b : List Text) (h : Text) (c d : List Text) (t : Text) → All IsNoHeader a → All IsNoHeader b → a ++ (mark ++ h) ∷ c ≡ b ++ (mark ++ t) ∷ d → OneHeader a b h c d t
+one_header [] [] h c d t p q e = record { before = refl; header = cc; behind = cc }
 one_header [] (y ∷ b) h c d t p q e = let z : mark ++ h ≡ y = cc in absurd (no_plain_mark h (subst IsNoHeader (sym z) (All-head IsNoHeader y b q)))
 one_header (x ∷ a) [] h c d t p q e = let z : x ≡ mark ++ t = cc in absurd (no_plain_mark t (subst IsNoHeader z (All-head IsNoHeader x a p)))
-one_header (x ∷ a) (y ∷ b) h c d t p q e = one_header a b h c d t (All-tail IsNoHeader x a p) (All-tail IsNoHeader y b q) (let z : a ++ (mark ++ h) ∷ c ≡ b ++ (mark ++ t) ∷ d = cc in z)
+one_header (x ∷ a) (y ∷ b) h c d t p q e =
+    let first : x ≡ y = cc in
+    let tails : a ++ (mark ++ h) ∷ c ≡ b ++ (mark ++ t) ∷ d = cc in
+    let rest = one_header a b h c d t (All-tail IsNoHeader x a p) (All-tail IsNoHeader y b q) tails in
+    record { before = ap (λ z. z ∷ a) first ∙ ap (λ z. y ∷ z) rest.before; header = rest.header; behind = rest.behind }
 
 -- plain lines have no header
 none_there : (a b : List Text) (t : Text) (d : List Text) → All IsNoHeader a → a ≡ b ++ (mark ++ t) ∷ d → ⊥
@@ -108,13 +113,6 @@ none_there [] [] t d p e = absurd (let z : [] ≡ (mark ++ t) ∷ d = e in cc)
 none_there [] (y ∷ b) t d p e = absurd (let z : [] ≡ y ∷ (b ++ (mark ++ t) ∷ d) = e in cc)
 none_there (x ∷ a) [] t d p e = let z : x ≡ mark ++ t = cc in no_plain_mark t (subst IsNoHeader z (All-head IsNoHeader x a p))
 none_there (x ∷ a) (y ∷ b) t d p e = none_there a b t d (All-tail IsNoHeader x a p) (let z : a ≡ b ++ (mark ++ t) ∷ d = cc in z)
-
--- the header after plain lines is the one of the file
-pub same_header : (a b : List Text) (h : Text) (c d : List Text) (t : Text) → All IsNoHeader a → All IsNoHeader b → a ++ (mark ++ h) ∷ c ≡ b ++ (mark ++ t) ∷ d → mark ++ h ≡ mark ++ t
-same_header [] [] h c d t p q e = let z : mark ++ h ≡ mark ++ t = cc in z
-same_header [] (y ∷ b) h c d t p q e = let z : mark ++ h ≡ y = cc in absurd (no_plain_mark h (subst IsNoHeader (sym z) (All-head IsNoHeader y b q)))
-same_header (x ∷ a) [] h c d t p q e = let z : x ≡ mark ++ t = cc in absurd (no_plain_mark t (subst IsNoHeader z (All-head IsNoHeader x a p)))
-same_header (x ∷ a) (y ∷ b) h c d t p q e = same_header a b h c d t (All-tail IsNoHeader x a p) (All-tail IsNoHeader y b q) (let z : a ++ (mark ++ h) ∷ c ≡ b ++ (mark ++ t) ∷ d = cc in z)
 
 pub behind_mark : (h t : Text) → mark ++ h ≡ mark ++ t → h ≡ t
 behind_mark h t e = ap (drop 9) e
@@ -173,11 +171,11 @@ no_file (t ∷ passed) p source fuel events f = none_there passed f.more f.heade
 
 pub heading_end : (bytes rest : Text) (n : ℕ) → Heading bytes rest n → length rest ≡ 0 → IsFirstBad (text_lines bytes) n
 heading_end bytes rest n h e =
-    let whole : text_lines bytes ≡ h.passed = h.parts ∙ ap (λ z. h.passed ++ z) (no_lines rest e) ∙ append_none h.passed in
+    let whole : text_lines bytes ≡ h.passed = h.parts ∙ ap (λ z. h.passed ++ z) (no_lines rest e) ∙ append-nil h.passed in
     subst (λ z. IsFirstBad z n) (sym whole) (record {
       place = length h.passed;
       counted = h.counted;
-      before = subst Continues (sym (ap (take (length h.passed)) (sym (append_none h.passed)) ∙ take_front h.passed [])) (continues_source h.passed h.plain);
+      before = subst Continues (sym (ap (take (length h.passed)) (sym (append-nil h.passed)) ∙ take_front h.passed [])) (continues_source h.passed h.plain);
       fails = inr (refl, no_file h.passed h.plain);
     })
 
@@ -196,7 +194,7 @@ bad_header [] line header some p e bad c = absurd (omega (arith, some))
 bad_header (t ∷ passed) line header some p e bad c =
     let f = c.file in
     let tails : passed ++ (mark ++ header) ∷ c.rest ≡ f.more ++ (mark ++ f.header) ∷ f.behind = ap (λ z. passed ++ z ∷ c.rest) (sym e) ∙ sym (append_assoc passed (line ∷ []) c.rest) ∙ ap behind_first f.parts in
-    let same : header ≡ f.header = behind_mark header f.header (same_header passed f.more header c.rest f.behind f.header p f.plain tails) in
+    let same : header ≡ f.header = behind_mark header f.header (one_header passed f.more header c.rest f.behind f.header p f.plain tails).header in
     bad c.fuel (subst (λ z. IsNumber 1 65536 z c.fuel) (sym same) f.fuel_is)
 
 pub heading_bad : (bytes rest : Text) (n : ℕ) (line behind header : Text) → Heading bytes rest n → IsFirstLine rest line behind → 1 < n → line ≡ mark ++ header → ((k : ℕ) → IsNumber 1 65536 header k → ⊥) → IsFirstBad (text_lines bytes) n
@@ -276,10 +274,10 @@ many_of bytes source fuel behind n events h are many = record { source = source;
 
 -- an event of this line is there
 event_there : (passed : List Text) (line : Text) (more : List Text) (events : List EventLine) → ((l : EventLine) → IsEventLine line l → ⊥) → AreEventLines (passed ++ line ∷ more) events → ⊥
-event_there [] line more [] bad a = a
 event_there [] line more (l ∷ events) bad a = bad l a.0
-event_there (t ∷ passed) line more [] bad a = a
 event_there (t ∷ passed) line more (l ∷ events) bad a = event_there passed line more events bad a.1
+event_there [] line more [] bad a = a
+event_there (t ∷ passed) line more [] bad a = a
 
 pub file_bad : (bytes source : Text) (fuel : ℕ) (behind : Text) (first n : ℕ) → IsHead bytes source fuel behind first → IsBadEvent (text_lines behind) first n → IsFirstBad (text_lines bytes) n
 file_bad bytes source fuel behind first n h b =
@@ -288,12 +286,12 @@ file_bad bytes source fuel behind first n h b =
     bad_there (text_lines bytes) passed b.line b.more n
     (h.lines ∙ ap (λ z. (h.first ∷ h.more) ++ (mark ++ h.header) ∷ z) b.parts ∙ apart)
     (let k = counts h.more (mark ++ h.header) b.passed in let c = b.counted in let d = h.counted in omega (arith, k, c, d))
-    (record { rest = []; source = source; fuel = fuel; events = b.events; file = subst (λ z. IsEventFile z source fuel b.events) (sym (append_none passed)) (record { first = h.first; more = h.more; header = h.header; behind = b.passed; parts = refl; plain = h.plain; fuel_is = h.fuel_is; events_are = b.are; source_is = h.source_is }) })
+    (record { rest = []; source = source; fuel = fuel; events = b.events; file = subst (λ z. IsEventFile z source fuel b.events) (sym (append-nil passed)) (record { first = h.first; more = h.more; header = h.header; behind = b.passed; parts = refl; plain = h.plain; fuel_is = h.fuel_is; events_are = b.are; source_is = h.source_is }) })
     (λ c.
     let f = c.file in
     let whole : (passed ++ b.line ∷ []) ++ c.rest ≡ h.first ∷ (h.more ++ (mark ++ h.header) ∷ (b.passed ++ b.line ∷ c.rest)) = append_assoc passed (b.line ∷ []) c.rest ∙ append_assoc (h.first ∷ h.more) ((mark ++ h.header) ∷ b.passed) (b.line ∷ c.rest) in
     let tails : h.more ++ (mark ++ h.header) ∷ (b.passed ++ b.line ∷ c.rest) ≡ f.more ++ (mark ++ f.header) ∷ f.behind = ap behind_first (sym whole ∙ f.parts) in
-    let same : b.passed ++ b.line ∷ c.rest ≡ f.behind = one_header h.more f.more h.header (b.passed ++ b.line ∷ c.rest) f.behind f.header h.plain f.plain tails in
+    let same : b.passed ++ b.line ∷ c.rest ≡ f.behind = (one_header h.more f.more h.header (b.passed ++ b.line ∷ c.rest) f.behind f.header h.plain f.plain tails).behind in
     event_there b.passed b.line c.rest c.events b.bad (subst (λ z. AreEventLines z c.events) (sym same) f.events_are))
   where
     counts : (a : List Text) (x : Text) (b : List Text) → length (a ++ x ∷ b) ≡ length a + 1 + length b

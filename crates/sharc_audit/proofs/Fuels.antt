@@ -56,11 +56,7 @@ module _ (ask : AskLaws) (m : Assignment) (R : List SourceEvent) where
 
   one_more : (e : SourceEvent) (S : List SourceEvent) (fuel : ℕ) (b : Bool) (t : ℕ) → is_of t e ≡ b → ((t : ℕ) → Has S fuel t) → (events_of e.thread R ≡ []) ⊎ Follows m R fuel e.thread → Has (e ∷ S) fuel t
   one_more e S fuel true t i each own = inr (subst (λ u. (events_of u R ≡ []) ⊎ Follows m R fuel u) (eqb-true e.thread t i) own)
-  one_more e S fuel false t i each own = still (each t)
-    where
-      still : Has S fuel t → Has (e ∷ S) fuel t
-      still (inl none) = inl (other_thread t e S i ∙ none)
-      still (inr h) = inr h
+  one_more e S fuel false t i each own = elim (each t) [ inl none ↦ inl (other_thread t e S i ∙ none) | inr h ↦ inr h ]
 
   more_has : (S : List SourceEvent) (fuel more t : ℕ) → Has S fuel t → Has S (fuel + more) t
   more_has S fuel more t (inl none) = inl none

@@ -1,5 +1,5 @@
 -- What is known of threads, one event more.
-use Rattle.sharc_audit.proofs.{Imports.{◌≡◌, ◌⊎◌, inl, inr, ℕ, zero, suc, ◌-◌, ◌<◌, ◌≤◌, Bool, true, false, ◌||◌, cond, List, [], ◌∷◌, ◌++◌, length, map, drop, slice_index_or, Some, Ok, Err, refl, ap, sym, subst, ◌∙◌, arith, append_assoc, eq-eqb, eqb-true, or_cases, or_left, or_right, list_any-append, ℤ, ◌==◌, Result, OnOk, slice_set, if◌then◌else◌, list_any, SourceEvent, Assignment, events_of, is_of, AskLaws, asks, answers_of, EventLine, ThreadRun, entry, has_begun, start_of, next_in, next_of, own_answers, next_asked, IsKnown, EachKnown, AreKnown, IsPlaceOf, told, lines_of, told_to, IsWalk, map_length, map_both}, Lists.{one_own, one_other}, Entries.{entry_more, begun_events, events_begun}, Telling.ask_once}
+use Rattle.sharc_audit.proofs.{Imports.{cases_Bool, ◌≡◌, ◌⊎◌, inl, inr, ℕ, zero, suc, ◌-◌, ◌<◌, ◌≤◌, Bool, true, false, ◌||◌, cond, List, [], ◌∷◌, ◌++◌, length, map, drop, slice_index_or, Some, Ok, Err, refl, ap, sym, subst, ◌∙◌, arith, append_assoc, eq-eqb, eqb-true, or_cases, or_left, or_right, list_any-append, ℤ, ◌==◌, Result, OnOk, slice_set, if◌then◌else◌, list_any, SourceEvent, Assignment, events_of, is_of, AskLaws, asks, answers_of, EventLine, ThreadRun, entry, has_begun, start_of, next_in, next_of, own_answers, next_asked, IsKnown, EachKnown, AreKnown, IsPlaceOf, told, lines_of, told_to, IsWalk, map_length, map_both}, Lists.{one_own, one_other}, Entries.{entry_more, begun_events, events_begun}, Telling.ask_once}
 
 -- ---- lists
 
@@ -126,11 +126,7 @@ any_set t (x ∷ runs) (suc i) run h same = ap (λ z. (x.thread == t) || z) (any
 
 module _ (m : Assignment) (fuel : ℕ) (R : List SourceEvent) (l : EventLine) (rest : List EventLine) (runs : List ThreadRun) (k : AreKnown m fuel R (l ∷ rest) runs) where
   pub not_begun : list_any (λ (x : ThreadRun). x.thread == l.thread) runs ≡ false → has_begun R l.thread ≡ false
-  not_begun h = by_case (has_begun R l.thread) refl
-    where
-      by_case : (b : Bool) → has_begun R l.thread ≡ b → has_begun R l.thread ≡ false
-      by_case false i = i
-      by_case true i = let z : true ≡ false = sym (k.all l.thread i) ∙ h in absurd (cc)
+  not_begun h = elim (cases_Bool (has_begun R l.thread)) [ inl i ↦ let z : true ≡ false = sym (k.all l.thread i) ∙ h in absurd (cc) | inr i ↦ i ]
 
   pub next_at_start : list_any (λ (x : ThreadRun). x.thread == l.thread) runs ≡ false → start_of m.typed l.thread (entry m.typed R l.thread) ≡ next_asked m fuel R l
   next_at_start h = sym (ap (λ b. if b then next_of m fuel l.thread (own_answers R l.thread) (told l) (entry m.typed R l.thread) else start_of m.typed l.thread (entry m.typed R l.thread)) (not_begun h))

@@ -2,22 +2,20 @@
 use Rattle.sharc_audit.proofs.Imports.{◌≡◌, ℕ, zero, suc, ◌+◌, true, false, List, [], ◌∷◌, drop, Some, None, refl, ap, sym, ◌∙◌, add-one, bytes_eq-Decides, slice_get, codes, if◌then◌else◌, Option, IsTrue, bytes_eq, Function, Resolution, IsResolved, function_at, OneFunctionOfName, is_named_main, main_from, OneMain}
 
 pub main_end : (k n : ℕ) (fs : List Function) → slice_get fs n ≡ None → main_from k (drop n fs) ≡ None
-main_end k zero [] h = refl
-main_end k (suc n) [] h = refl
 main_end k zero (f ∷ fs) h = absurd (cc)
 main_end k (suc n) (f ∷ fs) h = main_end k n fs h
+main_end k zero [] h = refl
+main_end k (suc n) [] h = refl
 
 pub main_here : (k n : ℕ) (fs : List Function) (f : Function) → slice_get fs n ≡ Some f → (a b : List ℕ) → a ≡ f.name.text → b ≡ codes "main" → bytes_eq a b ≡ true → main_from k (drop n fs) ≡ Some k
-main_here k zero [] f h a b i j e = absurd (cc)
-main_here k (suc n) [] f h a b i j e = absurd (cc)
 main_here k zero (g ∷ fs) f h a b i j e =
     let same : g ≡ f = cc in
     ap (λ z. if z then Some k else main_from (k + 1) fs) (ap (λ (z : Function). bytes_eq z.name.text (codes "main")) same ∙ ap (λ z. bytes_eq z (codes "main")) (sym i) ∙ ap (bytes_eq a) (sym j) ∙ e)
 main_here k (suc n) (g ∷ fs) f h a b i j e = main_here k n fs f h a b i j e
+main_here k zero [] f h a b i j e = absurd (cc)
+main_here k (suc n) [] f h a b i j e = absurd (cc)
 
 pub main_on : (k n : ℕ) (fs : List Function) (f : Function) → slice_get fs n ≡ Some f → (a b : List ℕ) → a ≡ f.name.text → b ≡ codes "main" → bytes_eq a b ≡ false → main_from k (drop n fs) ≡ main_from (k + 1) (drop (n + 1) fs)
-main_on k zero [] f h a b i j e = absurd (cc)
-main_on k (suc n) [] f h a b i j e = absurd (cc)
 main_on k zero (g ∷ fs) f h a b i j e =
     let same : g ≡ f = cc in
     ap (λ z. if z then Some k else main_from (k + 1) fs) (ap (λ (z : Function). bytes_eq z.name.text (codes "main")) same ∙ ap (λ z. bytes_eq z (codes "main")) (sym i) ∙ ap (bytes_eq a) (sym j) ∙ e)
@@ -25,6 +23,8 @@ main_on k (suc n) (g ∷ fs) f h a b i j e = main_on k n fs f h a b i j e ∙ ap
   where
     further : (n : ℕ) → drop (n + 1) fs ≡ drop (suc n + 1) (g ∷ fs)
     further n = rw (add-one, add-one) refl
+main_on k zero [] f h a b i j e = absurd (cc)
+main_on k (suc n) [] f h a b i j e = absurd (cc)
 
 -- a typed program has one
 called_main : (f : Function) → bytes_eq f.name.text (codes "main") ≡ true → f.name.text ≡ codes "main"

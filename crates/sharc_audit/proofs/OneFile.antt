@@ -1,15 +1,5 @@
 -- A text is one event file at most.
-use Rattle.sharc_audit.proofs.{Imports.{◌≡◌, inl, inr, ℕ, suc, ◌<◌, ◌≤◌, List, [], ◌∷◌, ◌++◌, length, take, drop, All, refl, ap, sym, subst, ◌∙◌, arith, append_assoc, take-append-drop, take-take, All-head, All-tail, join_with_byte, EventLine, Text, IsNumber, mark, AreEventLines, IsEventFile, Continues, FailsThere, IsFirstBad, IsNoHeader}, Alone.{one_number, one_listing}, Filing.{append_none, behind_first, behind_mark, no_plain_mark, one_header, same_header}}
-
--- the lines before the header are the same
-same_source : (a b : List Text) (h : Text) (c d : List Text) (t : Text) → All IsNoHeader a → All IsNoHeader b → a ++ (mark ++ h) ∷ c ≡ b ++ (mark ++ t) ∷ d → a ≡ b
-same_source [] [] h c d t p q e = refl
-same_source [] (y ∷ b) h c d t p q e = let z : mark ++ h ≡ y = cc in absurd (no_plain_mark h (subst IsNoHeader (sym z) (All-head IsNoHeader y b q)))
-same_source (x ∷ a) [] h c d t p q e = let z : x ≡ mark ++ t = cc in absurd (no_plain_mark t (subst IsNoHeader z (All-head IsNoHeader x a p)))
-same_source (x ∷ a) (y ∷ b) h c d t p q e =
-    let first : x ≡ y = cc in
-    let tails : a ++ (mark ++ h) ∷ c ≡ b ++ (mark ++ t) ∷ d = cc in
-    ap (λ z. z ∷ a) first ∙ ap (λ z. y ∷ z) (same_source a b h c d t (All-tail IsNoHeader x a p) (All-tail IsNoHeader y b q) tails)
+use Rattle.sharc_audit.proofs.{Imports.{append-nil, ◌≡◌, inl, inr, ℕ, suc, ◌<◌, ◌≤◌, List, [], ◌∷◌, ◌++◌, length, take, drop, refl, ap, sym, subst, ◌∙◌, arith, append_assoc, take-append-drop, take-take, join_with_byte, EventLine, Text, IsNumber, mark, AreEventLines, IsEventFile, Continues, FailsThere, IsFirstBad, IsNoHeader}, Alone.{one_number, one_listing}, Filing.{behind_first, behind_mark, one_header}}
 
 pub one_file : (texts : List Text) (source other : Text) (fuel more : ℕ) (events others : List EventLine) → IsEventFile texts source fuel events → IsEventFile texts other more others
     → (source ≡ other) × (fuel ≡ more) × (events ≡ others)
@@ -17,10 +7,10 @@ one_file texts source other fuel more events others f g =
     let whole : f.first ∷ (f.more ++ (mark ++ f.header) ∷ f.behind) ≡ g.first ∷ (g.more ++ (mark ++ g.header) ∷ g.behind) = sym f.parts ∙ g.parts in
     let first : f.first ≡ g.first = cc in
     let tails : f.more ++ (mark ++ f.header) ∷ f.behind ≡ g.more ++ (mark ++ g.header) ∷ g.behind = ap behind_first whole in
-    let lines = same_source f.more g.more f.header f.behind g.behind g.header f.plain g.plain tails in
-    let header = behind_mark f.header g.header (same_header f.more g.more f.header f.behind g.behind g.header f.plain g.plain tails) in
-    let behind = one_header f.more g.more f.header f.behind g.behind g.header f.plain g.plain tails in (
-      f.source_is ∙ ap (λ z. join_with_byte 10 (z ∷ f.more)) first ∙ ap (λ z. join_with_byte 10 (g.first ∷ z)) lines ∙ sym g.source_is,
+    let one = one_header f.more g.more f.header f.behind g.behind g.header f.plain g.plain tails in
+    let header = behind_mark f.header g.header one.header in
+    let behind = one.behind in (
+      f.source_is ∙ ap (λ z. join_with_byte 10 (z ∷ f.more)) first ∙ ap (λ z. join_with_byte 10 (g.first ∷ z)) one.before ∙ sym g.source_is,
       one_number 1 65536 g.header fuel more (omega arith) (subst (λ z. IsNumber 1 65536 z fuel) header f.fuel_is) g.fuel_is,
       one_listing g.behind events others (subst (λ z. AreEventLines z events) behind f.events_are) g.events_are,
     )
@@ -35,14 +25,13 @@ continues_front k texts c = record {
 }
 
 continues_whole : (texts : List Text) (source : Text) (fuel : ℕ) (events : List EventLine) → IsEventFile texts source fuel events → Continues texts
-continues_whole texts source fuel events f = record { rest = []; source = source; fuel = fuel; events = events; file = subst (λ z. IsEventFile z source fuel events) (sym (append_none texts)) f }
+continues_whole texts source fuel events f = record { rest = []; source = source; fuel = fuel; events = events; file = subst (λ z. IsEventFile z source fuel events) (sym (append-nil texts)) f }
 
 pub no_fault : (texts : List Text) (source : Text) (fuel : ℕ) (events : List EventLine) (n : ℕ) → IsEventFile texts source fuel events → IsFirstBad texts n → ⊥
-no_fault texts source fuel events n f b = by_case b.fails
-  where
-    by_case : FailsThere texts b.place → ⊥
-    by_case (inl h) = h.1 (continues_front (suc b.place) texts (continues_whole texts source fuel events f))
-    by_case (inr h) = h.1 source fuel events f
+no_fault texts source fuel events n f b = elim b.fails [
+  | inl h ↦ h.1 (continues_front (suc b.place) texts (continues_whole texts source fuel events f))
+  | inr h ↦ h.1 source fuel events f
+]
 
 inside : (texts : List Text) (place : ℕ) → FailsThere texts place → place ≤ length texts
 inside texts place (inl h) = let s = h.0 in omega (arith, s)

@@ -12,11 +12,9 @@ map_match f g None h = f h
 map_match f g (Some a) h = g a h
 
 thread_set : (runs : List ThreadRun) (i j : ℕ) (new d : ThreadRun) → i < length runs → (slice_index_or runs i new).thread ≡ new.thread → (slice_index_or (slice_set runs i new) j d).thread ≡ (slice_index_or runs j d).thread
-thread_set [] i j new d h same = refl
 thread_set (x ∷ runs) zero zero new d h same = sym same
-thread_set (x ∷ runs) zero (suc j) new d h same = refl
-thread_set (x ∷ runs) (suc i) zero new d h same = refl
 thread_set (x ∷ runs) (suc i) (suc j) new d h same = thread_set runs i j new d (omega (arith, h)) same
+thread_set _ _ _ new d h same = refl
 
 length_set : (runs : List ThreadRun) (i : ℕ) (new : ThreadRun) → length (slice_set runs i new) ≡ length runs
 length_set [] i new = refl
@@ -59,9 +57,9 @@ lines_more t (x ∷ a) l = by_first (x.thread == t) (l.thread == t) (lines_more 
   where
     by_first : (b c : Bool) → told_to t (a ++ l ∷ []) ≡ (if c then told_to t a ++ told l ∷ [] else told_to t a)
         → map told (cond b (x ∷ lines_of t (a ++ l ∷ [])) (lines_of t (a ++ l ∷ []))) ≡ (if c then map told (cond b (x ∷ lines_of t a) (lines_of t a)) ++ told l ∷ [] else map told (cond b (x ∷ lines_of t a) (lines_of t a)))
+    by_first false c h = h
     by_first true true h = ap (λ z. told x ∷ z) h
     by_first true false h = ap (λ z. told x ∷ z) h
-    by_first false c h = h
 
 -- ---- spawns
 

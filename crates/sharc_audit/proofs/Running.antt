@@ -18,10 +18,8 @@ module _ (ask : AskLaws) (m : Assignment) (fuel more t place f : ℕ) (v : ℤ) 
   unspent other = inr (ap (next_in t place) (sym (ask.fuel_same m f v answers fuel more other)))
 
   by_outcome : (o : Outcome) → (asks m f v answers fuel).outcome ≡ o → IsNextOrSpent
-  by_outcome (wants e) o = unspent (λ s. absurd (cc))
-  by_outcome ended o = unspent (λ s. absurd (cc))
-  by_outcome (stopped trap site) o = unspent (λ s. absurd (cc))
   by_outcome spent o = at_spent o (cases_order place (length (asks m f v answers fuel).events))
+  by_outcome _ o = unspent (λ s. absurd (cc))
 
   next_more : IsNextOrSpent
   next_more = by_outcome (asks m f v answers fuel).outcome refl
@@ -41,11 +39,10 @@ module _ (ask : AskLaws) (store : StoreLaws) (runs : RunLaws) (rules : RuleLaws)
   module _ (R : List SourceEvent) (run : SourceRunWith fuel m R) (l : EventLine) where
     -- an event that is asked for with more fuel is asked for, or the fuel is spent
     asked_or_spent : (more : ℕ) (e : SourceEvent) → IsLine m.typed l e → AskedFor m (fuel + more) R e → IsSpent m fuel R l.thread ⊎ AskedFor m fuel R e
-    asked_or_spent more e line asked = by_next (told_more ask m fuel more R l.thread (told l))
-      where
-        by_next : (next_told m fuel R l.thread (told l) ≡ Spent) ⊎ (next_told m fuel R l.thread (told l) ≡ next_told m (fuel + more) R l.thread (told l)) → IsSpent m fuel R l.thread ⊎ AskedFor m fuel R e
-        by_next (inl s) = inl (is_spent_at ask m one fuel R run.legal l.thread (told l) run s)
-        by_next (inr same) = inr (computed_asked ask m one fuel R run.legal run l e (same ∙ asked_is ask m one (fuel + more) R run.legal l e line asked) line)
+    asked_or_spent more e line asked = elim (told_more ask m fuel more R l.thread (told l)) [
+      | inl s ↦ inl (is_spent_at ask m one fuel R run.legal l.thread (told l) run s)
+      | inr same ↦ inr (computed_asked ask m one fuel R run.legal run l e (same ∙ asked_is ask m one (fuel + more) R run.legal l e line asked) line)
+    ]
 
     -- where the fuel is spent nothing fails
     not_asked : IsSpent m fuel R l.thread → IsAsked m fuel R l → ⊥
@@ -53,8 +50,7 @@ module _ (ask : AskLaws) (store : StoreLaws) (runs : RunLaws) (rules : RuleLaws)
 
     not_failed : (why : EventFault) → FailsBy m fuel R l why → IsSpent m fuel R l.thread → ⊥
     not_failed EventFault.NotAsked f s = f.unspent s
-    not_failed EventFault.NotLegal f s = not_asked s f.asked
-    not_failed (EventFault.Rule rule) f s = not_asked s f.asked
+    not_failed _ f s = not_asked s f.asked
 
   -- ---- the first line that is refused
   -- the events of a run that obeys, up to that line

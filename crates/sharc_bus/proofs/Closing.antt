@@ -1,5 +1,5 @@
 -- What a seat knows that has the parts of all ports: a rest, a round, and the one legal history of a round that ends.
-use Rattle.sharc_bus.proofs.{Imports.{◌≡◌, ◌≢◌, ℕ, zero, suc, ◌+◌, ◌<◌, ◌≤◌, ◌⊎◌, ⊎_elim, inl, inr, List, [], ◌∷◌, ◌++◌, length, get_or, refl, sym, ap, ◌∙◌, subst, arith, All, get_or as slice_index_or, length-append, cases_lt, get_or_append_left, get_or_push, get_or-map, get_or_past, length-map, dite, some, some-injective, some-ne-none, ℕ_discrete, get_elem?, WordEvent, words_after, LegalHistory, events_of, Part, IsAmong, unbegun, words_known, Settled, BusView, SeatView, RestView, IsOf, AreSeatsOf, OneHistory, lists_of, HasPart, HasAll, ports_of_all, ports_of_last}, Members.{among_left, among_right}, Settling.{HasNumber, length-unbegun}}
+use Rattle.sharc_bus.proofs.{Imports.{TableId, round_view, ◌≡◌, ◌≢◌, ℕ, zero, suc, ◌+◌, ◌<◌, ◌≤◌, ◌⊎◌, ⊎_elim, inl, inr, List, [], ◌∷◌, ◌++◌, length, get_or, refl, sym, ap, ◌∙◌, subst, arith, All, get_or as slice_index_or, length-append, cases_lt, get_or_append_left, get_or_push, get_or-map, get_or_past, length-map, dite, some, some-injective, some-ne-none, ℕ_discrete, get_elem?, WordEvent, words_after, LegalHistory, events_of, Part, IsAmong, unbegun, words_known, Settled, BusView, SeatView, RestView, IsOf, AreSeatsOf, OneHistory, lists_of, HasPart, HasAll, ports_of_all, ports_of_last}, Members.{among_left, among_right}, Settling.{HasNumber, length-unbegun}}
 
 module _ {X : Type 0} (P : X → Type 0) where
   pub all_left : (xs : List X) (x : X) → All P (xs ++ x ∷ []) → All P xs
@@ -48,9 +48,16 @@ pub record RoundOf (parts : List Part) (words : List ℕ) (ports : ℕ) : Type 0
   pub ports_are : ports_of_last parts ≡ ports
   pub is : parts ≡ unbegun (words_known parts) (ports_of_last parts) 1
 
-module _ (bus : BusView) (round : RestView) (of : IsOf bus round) (seats : List SeatView) (are : AreSeatsOf bus seats)
-    (first more parts : List Part) (words_are : round.words ≡ words_known first) (ports_are : round.ports ≡ ports_of_last first)
-    (alone : first ≡ unbegun (words_known first) (ports_of_last first) 1) (is : parts ≡ first ++ more) (has : HasAll seats parts) (count : length parts ≡ length first + length seats) where
+-- a round that ends: the seat of the last part took in those of all seats
+module _ (bus seen : BusView) (view_is : bus ≡ seen) (round : RestView) (of_seen : IsOf seen round) (seats : List SeatView) (are_seen : AreSeatsOf seen seats) (id : TableId) (first parts : List Part)
+    (round_is : round ≡ round_view id first) (alone : first ≡ unbegun (words_known first) (ports_of_last first) 1) (taken : (more : List Part) × (parts ≡ first ++ more)) (has : HasAll seats parts)
+    (count : length parts ≡ length first + length seats) where
+  of : IsOf bus round
+  of = subst (λ (b : BusView). IsOf b round) (sym view_is) of_seen
+
+  are : AreSeatsOf bus seats
+  are = subst (λ (b : BusView). AreSeatsOf b seats) (sym view_is) are_seen
+
   nobody : SeatView
   nobody = record { bus = bus.id; number = 0; events = [] }
 
@@ -58,16 +65,13 @@ module _ (bus : BusView) (round : RestView) (of : IsOf bus round) (seats : List 
   last = record { number = ports_of_last first; words = words_known first; events = [] }
 
   last_among : IsAmong last parts
-  last_among = subst (λ (ps : List Part). IsAmong last ps) (sym is) (among_left last first more (subst (λ (ps : List Part). IsAmong last ps) (sym alone) (inl refl)))
+  last_among = subst (λ (ps : List Part). IsAmong last ps) (sym taken.1) (among_left last first taken.0 (subst (λ (ps : List Part). IsAmong last ps) (sym alone) (inl refl)))
 
   last_is : ports_of_last first ≡ bus.ports
-  last_is = sym ports_are ∙ of.ports_are
+  last_is = sym (ap (λ (r : RestView). r.ports) round_is) ∙ of.ports_are
 
-  pub as_many : length parts ≡ suc bus.ports
+  as_many : length parts ≡ suc bus.ports
   as_many = omega (arith, count, are.all, ap (λ (ps : List Part). length ps) alone)
-
-  pub some_part : 0 < length parts
-  some_part = omega (arith, as_many)
 
   number_at : (n : ℕ) → n < suc bus.ports → (n < length seats) ⊎ (length seats ≤ n) → HasNumber parts n
   number_at n low (inl within) =
@@ -75,11 +79,12 @@ module _ (bus : BusView) (round : RestView) (of : IsOf bus round) (seats : List 
       record { part = h.part; among = h.among; is = h.number_is ∙ are.number_is n nobody within }
   number_at n low (inr past) = record { part = last; among = last_among; is = last_is ∙ omega (arith, low, past, are.all) }
 
-  pub each : (n : ℕ) → n < suc bus.ports → HasNumber parts n
-  each n low = number_at n low (cases_lt n (length seats))
+  -- all parts are together
+  pub all_there : (0 < length parts) × ((n : ℕ) → n < suc bus.ports → HasNumber parts n) × (length parts ≡ suc bus.ports)
+  all_there = (omega (arith, as_many), (λ n low. number_at n low (cases_lt n (length seats))), as_many)
 
   known_is : words_known parts ≡ round.words
-  known_is = ap words_known (is ∙ ap (λ (ps : List Part). ps ++ more) alone) ∙ sym words_are
+  known_is = ap words_known (taken.1 ∙ ap (λ (ps : List Part). ps ++ taken.0) alone) ∙ sym (ap (λ (r : RestView). r.words) round_is)
 
   module _ (new : List Part) (s : Settled parts new) where
     pub rest_then : RestOf new s.now bus.ports

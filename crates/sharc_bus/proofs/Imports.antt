@@ -10,4 +10,4 @@ pub use native.Mathlib.Decide.{ℕ_discrete}
 pub use prog.Atomic.{either}
 pub use Rattle.sharc_lemmas.proofs.Bools.{if_false, if_true}
 pub use Rattle.sharc_word.specs.{History.{LegalHistory, MayFollow, events_of}, Laws.HistoryLaws, Place.event_of, Words.{word_after, words_after, words_after_step}, declared.step.WordEvent.WordEvent, declared.step.WordOp.WordOp, declared.step.WordOp.TheVariants.{Add, And, Cas, Load, Or, Sub, Swap}, declared.step.WordStep.WordStep}
-pub use Rattle.sharc_bus.specs.{Bus.{AreSeatsOf, BusView, IsOf, OneHistory, RestView, SeatView, lists_of, name_of}, Rule.{BusRule, IsAmong, Settled, first_number, own_bit, own_bits, unbegun, with_step, words_known}, Table.{HasAll, HasPart, ports_of_all, ports_of_last, seat_view, seats_with}, declared.rule.Part.Part}
+pub use Rattle.sharc_bus.specs.{Bus.{AreSeatsOf, BusView, IsOf, OneHistory, RestView, SeatView, lists_of, name_of}, Rule.{BusRule, IsAmong, Settled, first_number, own_bit, own_bits, unbegun, with_step, words_known}, Table.{HasAll, HasPart, ports_of_all, ports_of_last, round_view, seat_view, seats_with}, declared.rule.Part.Part}

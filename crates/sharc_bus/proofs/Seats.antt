@@ -1,11 +1,11 @@
 -- The rule holds where a bus is opened, and is kept where a seat is cut in two and where two become one.
 use Rattle.sharc_bus.proofs.{Imports.{◌≡◌, ◌≢◌, ℕ, zero, suc, ◌+◌, ◌<◌, ◌≤◌, ◌==◌, ◌⊎◌, ⊎_elim, inl, inr, List, [], ◌∷◌, ◌++◌, length, slice_set, take, drop, refl, sym, ap, ◌∙◌, subst, arith, if◌then◌else◌, eq-eqb, ne_eqb, length-set, some, some-injective, some-ne-none, get_elem?, State, Splits, Joins, opening, at_set, set_else, WordEvent, events_of, HistoryLaws, Part, IsAmong, BusRule, unbegun, if_false, if_true}, Members.{among_one, among_append}}
 
-abbrev St : Type 0
+abbrev pub St : Type 0
 St = State (Unit {0}) (List Part)
 
 -- what the rule says of one part of a seat
-abbrev Kept : List ℕ → List WordEvent → (ℕ → ℕ) → ℕ → ℕ → Part → Type 0
+abbrev pub Kept : List ℕ → List WordEvent → (ℕ → ℕ) → ℕ → ℕ → Part → Type 0
 Kept base history owner numbers seat part = (part.events ≡ events_of part.number history) × (owner part.number ≡ seat) × (part.number < numbers) × (part.words ≡ base)
 
 -- a part of a port that has not begun
@@ -57,21 +57,15 @@ module _ (opening : List ℕ) (ports id : ℕ) (p : Part) (ps : List Part) (othe
   split_new : (q : Part) → IsAmong q ps → Kept kept.base kept.history split_owner ports (length s.views) q
   split_new q among =
       let old = kept.parts_are id (p ∷ ps) q at (inr among) in
-      let rest : ℕ = if kept.owner q.number == id then length s.views else kept.owner q.number in
-      let other : split_owner q.number ≡ rest = if_false (q.number == p.number) id rest (ne_eqb q.number p.number (others q among)) in
-      let mine : rest ≡ length s.views = if_true (kept.owner q.number == id) (length s.views) (kept.owner q.number) (eq-eqb (kept.owner q.number) id old.1) in
-      (old.0, other ∙ mine, old.2, old.3)
+      (old.0, rw (ne_eqb q.number p.number (others q among), eq-eqb (kept.owner q.number) id old.1) refl, old.2, old.3)
 
   split_else : (seat : ℕ) (parts : List Part) (q : Part) → seat ≢ id → get_elem? s.views seat ≡ some parts → IsAmong q parts → Kept kept.base kept.history split_owner ports seat q
   split_else seat parts q away there among =
       let old = kept.parts_are seat parts q there among in
       let first = kept.parts_are id (p ∷ ps) p at (inl refl) in
-      let rest : ℕ = if kept.owner q.number == id then length s.views else kept.owner q.number in
       let apart : q.number ≢ p.number = (λ e. away (sym old.1 ∙ (ap kept.owner e ∙ first.1))) in
-      let other : split_owner q.number ≡ rest = if_false (q.number == p.number) id rest (ne_eqb q.number p.number apart) in
       let gone : kept.owner q.number ≢ id = (λ e. away (sym old.1 ∙ e)) in
-      let mine : rest ≡ kept.owner q.number = if_false (kept.owner q.number == id) (length s.views) (kept.owner q.number) (ne_eqb (kept.owner q.number) id gone) in
-      (old.0, other ∙ (mine ∙ old.1), old.2, old.3)
+      (old.0, rw (ne_eqb q.number p.number apart, ne_eqb (kept.owner q.number) id gone) old.1, old.2, old.3)
 
   split_parts : (seat : ℕ) (parts : List Part) (q : Part) → get_elem? split.views seat ≡ some parts → IsAmong q parts → Kept kept.base kept.history split_owner ports seat q
   split_parts seat parts q there among =

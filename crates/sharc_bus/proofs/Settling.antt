@@ -1,8 +1,5 @@
 -- A seat that has the parts of all numbers begins a new round, and finds the words while no part has begun.
-use Rattle.sharc_bus.proofs.{Imports.{◌≡◌, ℕ, zero, suc, ◌+◌, ◌<◌, ◌≤◌, Bool, true, false, ◌==◌, ◌⊎◌, ⊎_elim, inl, inr, List, [], ◌∷◌, length, slice_index, slice_set, refl, sym, ap, ◌∙◌, subst, arith, eq-eqb, cond, cases_lt, some, get_elem?, State, Me, Allows, keeps, at_set, set_again, WordEvent, words_after, LegalHistory, events_of, HistoryLaws, Part, IsAmong, BusRule, unbegun, words_known, Settled}, Seats.among_unbegun}
-
-abbrev St : Type 0
-St = State (Unit {0}) (List Part)
+use Rattle.sharc_bus.proofs.{Imports.{◌≡◌, ℕ, zero, suc, ◌+◌, ◌<◌, ◌≤◌, Bool, true, false, ◌==◌, ◌⊎◌, ⊎_elim, inl, inr, List, [], ◌∷◌, length, slice_index, slice_set, refl, sym, ap, ◌∙◌, subst, arith, eq-eqb, cond, cases_lt, some, get_elem?, Me, Allows, keeps, at_set, set_again, WordEvent, words_after, LegalHistory, events_of, HistoryLaws, Part, IsAmong, BusRule, unbegun, words_known, Settled}, Seats.{St, among_unbegun}}
 
 -- a word that is written as it is changes nothing
 pub set_same : (words : List ℕ) (i : ℕ) → slice_set words i (slice_index words i) ≡ words

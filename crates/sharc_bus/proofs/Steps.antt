@@ -1,5 +1,5 @@
 -- A step of any operation keeps the rule: its event goes to the end of the history, and of its seat's part.
-use Rattle.sharc_bus.proofs.{Imports.{◌≡◌, ◌≢◌, ℕ, ◌<◌, ◌≤◌, ◌==◌, Bool, true, false, bit_or, if◌then◌else◌, ⊎_elim, inl, List, [], ◌∷◌, ◌++◌, length, slice_index, slice_set, refl, sym, ap, ◌∙◌, subst, arith, eq-eqb, ne_eqb, eqb-true, append-nil, filter-append, some, get_elem?, State, Me, Allows, keeps, at_set, set_again, Or, WordStep, WordEvent, word_after, words_after_step, words_after, MayFollow, events_of, event_of, HistoryLaws, Part, IsAmong, BusRule, with_step}, Members.among_one, Settling.set_same}
+use Rattle.sharc_bus.proofs.{Imports.{◌≡◌, ◌≢◌, ℕ, ◌<◌, ◌≤◌, ◌==◌, Bool, true, false, bit_or, if◌then◌else◌, ⊎_elim, inl, List, [], ◌∷◌, ◌++◌, length, slice_index, slice_set, refl, sym, ap, ◌∙◌, subst, arith, eq-eqb, ne_eqb, eqb-true, append-nil, filter-append, some, get_elem?, Me, Allows, keeps, at_set, set_again, Or, WordStep, WordEvent, word_after, words_after_step, words_after, MayFollow, events_of, event_of, HistoryLaws, Part, IsAmong, BusRule, with_step}, Members.among_one, Seats.{St, Kept}, Settling.set_same}
 
 pub events_push_same : (thread : ℕ) (history : List WordEvent) (e : WordEvent) → e.thread ≡ thread → events_of thread (history ++ e ∷ []) ≡ events_of thread history ++ e ∷ []
 events_push_same thread history e is = rw (filter-append, eq-eqb e.thread thread is)
@@ -7,11 +7,7 @@ events_push_same thread history e is = rw (filter-append, eq-eqb e.thread thread
 pub events_push_other : (thread : ℕ) (history : List WordEvent) (e : WordEvent) → e.thread ≢ thread → events_of thread (history ++ e ∷ []) ≡ events_of thread history
 events_push_other thread history e not = rw (filter-append, ne_eqb e.thread thread not) (append-nil (events_of thread history))
 
--- what the rule says of one part of a seat
-abbrev Kept : List ℕ → List WordEvent → (ℕ → ℕ) → ℕ → ℕ → Part → Type 0
-Kept base history owner numbers seat part = (part.events ≡ events_of part.number history) × (owner part.number ≡ seat) × (part.number < numbers) × (part.words ≡ base)
-
-module _ (laws : HistoryLaws) (opening : List ℕ) (numbers : ℕ) (s : State (Unit {0}) (List Part)) (kept : BusRule opening numbers s) (id : ℕ) (p : Part) (at : get_elem? s.views id ≡ some (p ∷ [])) (step : WordStep) (inside : step.word < length opening) where
+module _ (laws : HistoryLaws) (opening : List ℕ) (numbers : ℕ) (s : St) (kept : BusRule opening numbers s) (id : ℕ) (p : Part) (at : get_elem? s.views id ≡ some (p ∷ [])) (step : WordStep) (inside : step.word < length opening) where
   abbrev found : ℕ
   found = slice_index s.words step.word
 
@@ -21,7 +17,7 @@ module _ (laws : HistoryLaws) (opening : List ℕ) (numbers : ℕ) (s : State (U
   abbrev stepped_part : Part
   stepped_part = record { number = p.number; words = p.words; events = p.events ++ made ∷ [] }
 
-  abbrev after : State (Unit {0}) (List Part)
+  abbrev after : St
   after = record { words = words_after_step s.words step; homes = s.homes; views = slice_set s.views id (stepped_part ∷ []) }
 
   may : MayFollow (words_after kept.base kept.history) made
@@ -87,10 +83,10 @@ module _ (laws : HistoryLaws) (opening : List ℕ) (numbers slots id : ℕ) (me 
   or_step = record { word = word; op = Or bits }
 
   -- what is kept where the seat's parts are these
-  abbrev Stands : State (Unit {0}) (List Part) → List Part → Type 0
+  abbrev Stands : St → List Part → Type 0
   Stands s parts = BusRule opening numbers record { words = slice_set s.words word (slice_index s.words word); homes = s.homes; views = slice_set s.views id parts }
 
-  stands_by : (s : State (Unit {0}) (List Part)) → BusRule opening numbers s → get_elem? s.views id ≡ some me.0 → (b : Bool) → (bit_or (slice_index s.words word) bits == slice_index s.words word) ≡ b → Stands s (if b then with_step me.0 or_step (slice_index s.words word) else me.0)
+  stands_by : (s : St) → BusRule opening numbers s → get_elem? s.views id ≡ some me.0 → (b : Bool) → (bit_or (slice_index s.words word) bits == slice_index s.words word) ≡ b → Stands s (if b then with_step me.0 or_step (slice_index s.words word) else me.0)
   stands_by s kept at true e =
       let n : ℕ = slice_index s.words word in
       let at' : get_elem? s.views id ≡ some (one.0 ∷ []) = subst (λ v. get_elem? s.views id ≡ some v) one.1 at in

@@ -26,11 +26,8 @@ module _ (r : Resolution) (ds : List Declaration) (all : Arguments) where
   mode_none s l h is = for_none l (path_variable r l) (ap (unmet r ds all) (sym is) ∙ h)
 
   none_mode : (s : Sharing) → ((l : Lock) → s ≡ locked l → Met l) → unmet r ds all s ≡ None
-  none_mode private h = refl
-  none_mode readonly h = refl
   none_mode (locked l) h = none_for l (path_variable r l) (h l refl)
-  none_mode racy h = refl
-  none_mode dynamic h = refl
+  none_mode _ h = refl
 
   in_none : (modes : List Sharing) (l : Lock) → unmet_in r ds all modes ≡ None → Contains modes (locked l) → Met l
   in_none [] l h has = absurd (none_there (locked l) has)
@@ -47,12 +44,8 @@ module _ (r : Resolution) (ds : List Declaration) (all : Arguments) where
   level_none level path h is = for_none (lock_of path) (path_variable r (lock_of path)) (ap (unmet_level r ds all) (sym is) ∙ h)
 
   none_level : (level : Option Mode) → ((path : Path) → level ≡ Some (Locked path) → Met (lock_of path)) → unmet_level r ds all level ≡ None
-  none_level None h = refl
-  none_level (Some Private) h = refl
-  none_level (Some Readonly) h = refl
   none_level (Some (Locked path)) h = none_for (lock_of path) (path_variable r (lock_of path)) (h path refl)
-  none_level (Some Racy) h = refl
-  none_level (Some Dynamic) h = refl
+  none_level _ h = refl
 
   written_none : (levels : List (Option Mode)) (path : Path) → unmet_written r ds all levels ≡ None → Contains levels (Some (Locked path)) → Met (lock_of path)
   written_none [] path h has = absurd (none_there (Some (Locked path)) has)

@@ -3,48 +3,26 @@ use Rattle.sharc_check.proofs.{Imports.{◌≡◌, ⊎_elim, ℕ, zero, suc, ◌
 use Rattle.sharc_names.specs.Kinds as kinds
 
 mutex_is : (k : Kind) → is_mutex_kind k ≡ true → k ≡ mutex
-mutex_is (object Base.Int n) h = absurd (false≢true h)
-mutex_is (object Base.Char n) h = absurd (false≢true h)
-mutex_is (object Base.Long n) h = absurd (false≢true h)
 mutex_is (object Base.Mutex n) h = ap (object Base.Mutex) (eqb-true n 0 h)
-mutex_is (object Base.Void n) h = absurd (false≢true h)
-mutex_is (object (Base.Struct x) n) h = absurd (false≢true h)
-mutex_is (array b n) h = absurd (false≢true h)
-mutex_is null h = absurd (false≢true h)
-mutex_is kinds.function h = absurd (false≢true h)
+mutex_is _ h = absurd (false≢true h)
 
 is_mutex_by : (k : Kind) → k ≡ mutex → is_mutex_kind k ≡ true
 is_mutex_by k is = ap is_mutex_kind is
 
 pointer_is : (k : Kind) → is_mutex_pointer k ≡ true → k ≡ object Base.Mutex 1
-pointer_is (object Base.Int n) h = absurd (false≢true h)
-pointer_is (object Base.Char n) h = absurd (false≢true h)
-pointer_is (object Base.Long n) h = absurd (false≢true h)
 pointer_is (object Base.Mutex n) h = ap (object Base.Mutex) (eqb-true n 1 h)
-pointer_is (object Base.Void n) h = absurd (false≢true h)
-pointer_is (object (Base.Struct x) n) h = absurd (false≢true h)
-pointer_is (array b n) h = absurd (false≢true h)
-pointer_is null h = absurd (false≢true h)
-pointer_is kinds.function h = absurd (false≢true h)
+pointer_is _ h = absurd (false≢true h)
 
 readonly_is : (o : Option Mode) → is_readonly_top o ≡ true → o ≡ Some Readonly
-readonly_is None h = absurd (false≢true h)
-readonly_is (Some Private) h = absurd (false≢true h)
 readonly_is (Some Readonly) h = refl
-readonly_is (Some (Locked path)) h = absurd (false≢true h)
-readonly_is (Some Racy) h = absurd (false≢true h)
-readonly_is (Some Dynamic) h = absurd (false≢true h)
+readonly_is _ h = absurd (false≢true h)
 
 -- ---- targets that take no mode from the top
 
 base_level_is : (b : Base) (below : List (Option Mode)) → is_mutex b below ≡ true → (b ≡ Base.Mutex) × (length below ≡ 0)
-base_level_is Base.Int below h = absurd (false≢true h)
-base_level_is Base.Char below h = absurd (false≢true h)
-base_level_is Base.Long below h = absurd (false≢true h)
 base_level_is Base.Mutex [] h = (refl, refl)
 base_level_is Base.Mutex (x ∷ below) h = absurd (false≢true h)
-base_level_is Base.Void below h = absurd (false≢true h)
-base_level_is (Base.Struct x) below h = absurd (false≢true h)
+base_level_is _ below h = absurd (false≢true h)
 
 base_level_by : (b : Base) (below : List (Option Mode)) → b ≡ Base.Mutex → length below ≡ 0 → is_mutex b below ≡ true
 base_level_by b [] is size = ap (λ z. is_mutex z []) is
@@ -83,26 +61,16 @@ closed_by b (Some x ∷ below) h = closed_by b below (λ j is. let later = h (su
 
 module _ (r : Resolution) (e : Entity) (depth : ℕ) where
   global_by : (text : List ℕ) (token : ℕ) (what : Named) → named_at r token ≡ what → names_global_mutex r what ≡ true → IsAllowed r e depth (One text token)
-  global_by text token (Named.Struct n) is h = absurd (false≢true h)
   global_by text token (Named.Global n) is h = global_mutex is (mutex_is (named_kind r (Named.Global n)) h)
-  global_by text token (Named.Function n) is h = absurd (false≢true h)
-  global_by text token (Named.Variable n) is h = absurd (false≢true h)
-  global_by text token (Named.Field n) is h = absurd (false≢true h)
-  global_by text token Named.Known is h = absurd (false≢true h)
+  global_by text token _ is h = absurd (false≢true h)
 
   sibling_by : (text : List ℕ) (token : ℕ) (what : Named) → place_of e.role ≡ Place.Field → named_at r token ≡ what → names_sibling_mutex r what ≡ true → IsAllowed r e depth (One text token)
-  sibling_by text token (Named.Struct n) field is h = absurd (false≢true h)
-  sibling_by text token (Named.Global n) field is h = absurd (false≢true h)
-  sibling_by text token (Named.Function n) field is h = absurd (false≢true h)
-  sibling_by text token (Named.Variable n) field is h = absurd (false≢true h)
   sibling_by text token (Named.Field n) field is h = sibling_mutex field is (mutex_is (named_kind r (Named.Field n)) h)
-  sibling_by text token Named.Known field is h = absurd (false≢true h)
+  sibling_by text token _ field is h = absurd (false≢true h)
 
   one_by : (text : List ℕ) (token : ℕ) (where_is : Place) (what : Named) → place_of e.role ≡ where_is → named_at r token ≡ what → allows_path r where_is what None ≡ true → IsAllowed r e depth (One text token)
   one_by text token Place.Field what at is h = ⊎_elim (λ g. global_by text token what is g) (λ s. sibling_by text token what at is s) (or_cases (names_global_mutex r what) (names_sibling_mutex r what) h)
-  one_by text token Place.Local what at is h = global_by text token what is h
-  one_by text token Place.Global what at is h = global_by text token what is h
-  one_by text token Place.Result what at is h = global_by text token what is h
+  one_by text token _ what at is h = global_by text token what is h
 
 member_by : (r : Resolution) (x : ℕ) (m : List ℕ) (d : Declaration) (n : ℕ) (s : StructDefinition) (o : Option Declaration) → declaration_at r x ≡ Some d → named_at r d.written.base.token ≡ Named.Struct n → struct_at r n ≡ Some s → field_of s.fields m ≡ o
     → is_mutex_field o ≡ true → IsMutexBehind r x m
@@ -116,11 +84,7 @@ struct_by r x m d n (Some s) a b c h = member_by r x m d n s (field_of s.fields 
 
 named_by : (r : Resolution) (x : ℕ) (m : List ℕ) (d : Declaration) (what : Named) → declaration_at r x ≡ Some d → named_at r d.written.base.token ≡ what → is_mutex_field (field_of (fields_named r what) m) ≡ true → IsMutexBehind r x m
 named_by r x m d (Named.Struct n) a b h = struct_by r x m d n (struct_at r n) a b refl h
-named_by r x m d (Named.Global n) a b h = absurd (false≢true h)
-named_by r x m d (Named.Function n) a b h = absurd (false≢true h)
-named_by r x m d (Named.Variable n) a b h = absurd (false≢true h)
-named_by r x m d (Named.Field n) a b h = absurd (false≢true h)
-named_by r x m d Named.Known a b h = absurd (false≢true h)
+named_by r x m d _ a b h = absurd (false≢true h)
 
 behind_by : (r : Resolution) (x : ℕ) (m : List ℕ) (o : Option Declaration) → declaration_at r x ≡ o → is_mutex_field (field_of (fields_behind r o) m) ≡ true → IsMutexBehind r x m
 behind_by r x m None a h = absurd (false≢true h)
@@ -136,20 +100,14 @@ by_behind r x m b =
 
 module _ (r : Resolution) (e : Entity) (depth : ℕ) where
   variable_by : (text m : List ℕ) (token : ℕ) (what : Named) → place_of e.role ≡ Place.Local → named_at r token ≡ what → is_through_constant r what m ≡ true → IsAllowed r e depth (Through text token m)
-  variable_by text m token (Named.Struct n) at is h = absurd (false≢true h)
-  variable_by text m token (Named.Global n) at is h = absurd (false≢true h)
-  variable_by text m token (Named.Function n) at is h = absurd (false≢true h)
   variable_by text m token (Named.Variable x) at is h =
       let parts = and_parts (is_constant r x) (is_mutex_field (field_of (fields_behind r (declaration_at r x)) m)) h in
       through_constant at is parts.0 (behind_by r x m (declaration_at r x) refl parts.1)
-  variable_by text m token (Named.Field n) at is h = absurd (false≢true h)
-  variable_by text m token Named.Known at is h = absurd (false≢true h)
+  variable_by text m token _ at is h = absurd (false≢true h)
 
   through_by : (text m : List ℕ) (token : ℕ) (where_is : Place) → place_of e.role ≡ where_is → allows_path r where_is (named_at r token) (Some m) ≡ true → IsAllowed r e depth (Through text token m)
-  through_by text m token Place.Field at h = absurd (false≢true h)
   through_by text m token Place.Local at h = variable_by text m token (named_at r token) at refl h
-  through_by text m token Place.Global at h = absurd (false≢true h)
-  through_by text m token Place.Result at h = absurd (false≢true h)
+  through_by text m token _ at h = absurd (false≢true h)
 
   fits_allowed : (path : Path) → path_fits r (place_of e.role) (lock_of path) ≡ true → IsAllowed r e depth path
   fits_allowed (One text token) h = one_by r e depth text token (place_of e.role) (named_at r token) refl refl h
@@ -185,12 +143,8 @@ written_below e top below size h = closed_by e.written.ctype.base below (λ j is
 
 module _ (r : Resolution) (e : Entity) where
   named_pointer : (text : List ℕ) (token : ℕ) (what : Named) → place_of e.role ≡ Place.Field → named_at r token ≡ what → names_sibling_pointer r what ≡ true → AreTargetsWritten e → IsAllowed r e 0 (One text token)
-  named_pointer text token (Named.Struct n) at is h w = absurd (false≢true h)
-  named_pointer text token (Named.Global n) at is h w = absurd (false≢true h)
-  named_pointer text token (Named.Function n) at is h w = absurd (false≢true h)
-  named_pointer text token (Named.Variable n) at is h w = absurd (false≢true h)
   named_pointer text token (Named.Field f) at is h w = sibling_pointer at refl is (lock_pointer_by r f (declaration_at r f) refl h) w
-  named_pointer text token Named.Known at is h w = absurd (false≢true h)
+  named_pointer text token _ at is h w = absurd (false≢true h)
 
   pointer_by : (text : List ℕ) (token : ℕ) (top : Option Mode) (below : List (Option Mode)) (where_is : Place) → e.written.ctype.levels ≡ top ∷ below → place_of e.role ≡ where_is
       → allows_pointer r where_is e.written.ctype.base below (named_at r token) None ≡ true → IsAllowed r e 0 (One text token)
@@ -201,15 +155,11 @@ module _ (r : Resolution) (e : Entity) where
       not_true : (b : Bool) → not b ≡ true → b ≡ false
       not_true true h = absurd (false≢true h)
       not_true false h = refl
-  pointer_by text token top below Place.Local size at h = absurd (false≢true h)
-  pointer_by text token top below Place.Global size at h = absurd (false≢true h)
-  pointer_by text token top below Place.Result size at h = absurd (false≢true h)
+  pointer_by text token top below _ size at h = absurd (false≢true h)
 
   no_pointer : (where_is : Place) (b : Base) (below : List (Option Mode)) (what : Named) (m : List ℕ) → allows_pointer r where_is b below what (Some m) ≡ true → ⊥
   no_pointer Place.Field b below what m h = false≢true h
-  no_pointer Place.Local b below what m h = false≢true h
-  no_pointer Place.Global b below what m h = false≢true h
-  no_pointer Place.Result b below what m h = false≢true h
+  no_pointer _ b below what m h = false≢true h
 
   top_allowed : (top : Option Mode) (below : List (Option Mode)) → e.written.ctype.levels ≡ top ∷ below → (path : Path) → top_path_fits r (place_of e.role) e.written.ctype.base below (lock_of path) ≡ true → IsAllowed r e 0 path
   top_allowed top below size (One text token) h =
@@ -223,9 +173,7 @@ module _ (r : Resolution) (e : Entity) where
 
 anywhere : (r : Resolution) (where_is : Place) (what : Named) → names_global_mutex r what ≡ true → allows_path r where_is what None ≡ true
 anywhere r Place.Field what h = or_left (names_global_mutex r what) (names_sibling_mutex r what) h
-anywhere r Place.Local what h = h
-anywhere r Place.Global what h = h
-anywhere r Place.Result what h = h
+anywhere r _ what h = h
 
 -- it fits at any depth, or it is a pointer to a mutex on the top
 pub data Fits (r : Resolution) (e : Entity) (depth : ℕ) : Path → Type 0 where
@@ -258,23 +206,15 @@ path_none : (r : Resolution) (p : Place) (level : Option Mode) (path : Path) →
 path_none r p level path h is = unless_none (path_fits r p (lock_of path)) path (ap (unfit_path r p) (sym is) ∙ h)
 
 none_path : (r : Resolution) (p : Place) (level : Option Mode) → ((path : Path) → level ≡ Some (Locked path) → path_fits r p (lock_of path) ≡ true) → unfit_path r p level ≡ None
-none_path r p None h = refl
-none_path r p (Some Private) h = refl
-none_path r p (Some Readonly) h = refl
 none_path r p (Some (Locked path)) h = none_unless (path_fits r p (lock_of path)) path (h path refl)
-none_path r p (Some Racy) h = refl
-none_path r p (Some Dynamic) h = refl
+none_path r p _ h = refl
 
 top_none : (r : Resolution) (p : Place) (b : Base) (below : List (Option Mode)) (level : Option Mode) (path : Path) → unfit_top_path r p b below level ≡ None → level ≡ Some (Locked path) → top_path_fits r p b below (lock_of path) ≡ true
 top_none r p b below level path h is = unless_none (top_path_fits r p b below (lock_of path)) path (ap (unfit_top_path r p b below) (sym is) ∙ h)
 
 none_top : (r : Resolution) (p : Place) (b : Base) (below : List (Option Mode)) (level : Option Mode) → ((path : Path) → level ≡ Some (Locked path) → top_path_fits r p b below (lock_of path) ≡ true) → unfit_top_path r p b below level ≡ None
-none_top r p b below None h = refl
-none_top r p b below (Some Private) h = refl
-none_top r p b below (Some Readonly) h = refl
 none_top r p b below (Some (Locked path)) h = none_unless (top_path_fits r p b below (lock_of path)) path (h path refl)
-none_top r p b below (Some Racy) h = refl
-none_top r p b below (Some Dynamic) h = refl
+none_top r p b below _ h = refl
 
 in_none : (r : Resolution) (p : Place) (levels : List (Option Mode)) → unfit_path_in r p levels ≡ None → (k : ℕ) (path : Path) → slice_get levels k ≡ Some (Some (Locked path)) → path_fits r p (lock_of path) ≡ true
 in_none r p [] h k path is = absurd (none_some (Some (Locked path)) is)

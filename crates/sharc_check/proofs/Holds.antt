@@ -1,5 +1,5 @@
 -- What all notes of a program say, by its constructs, there and back.
-use Rattle.sharc_check.proofs.{Imports.{◌≡◌, ⊎_elim, ◌+◌, ℕ, zero, suc, Bool, true, false, ◌&&◌, cond, arith, List, [], ◌∷◌, ◌++◌, drop, refl, ap, sym, ◌∙◌, subst, slice_get, Option, Some, None, Contains, false≢true, AllByRecursion, flat_map, list_any, Mode, Locked, Path, Span, Declaration, Identifier, WrittenType, FieldOperator, PlaceCall, Unlock, Free, GlobalDefinition, without_parentheses, in_function, span_of, Expression, Arguments, no_arguments, argument, Right, value, malloc, Local, Function, Numbered, entities_in, numbered, functions_in, globals_in, named_at, kind_at, function_at, global_at, Receiver, lvalue, variable, result, Transfer, passed, parameters_named, function_transfers, ReadonlyWrite, PrivateField, PrivateReachesThread, ReadonlySource, Finding, cell_at, top_of, expected, place_notes, items_notes, Assignment, base_of, span_text, agree_notes, error_where, levels_of, private_notes, path_notes, mode_notes, is_private_level, is_field_role, private_field_notes, names_in_level, names_in_all, names_read, type_notes, first_unmet, unmet_notes, parameter_names, names_at_call, call_notes, cast_notes, taken_variable, source_notes, takes, sibling_notes, PathReading, written, at_call, base_use, declared_row, cast_row, named_row, modes_of, modes_at, Sharing, same_all, is_readonly, is_sibling, text_at, variable_named, object_of, lock_of, place_of, holds_private, first_unfit_path, first_unfit_mode, is_spawned, has_private_target, parameter_notes, spawned_notes, touched_notes, notes_about, IsFunction, IsExpression, IsCall, called, spawned, IsTaken, cast_away, freed, IsAssigned, IsGiven, assigned, initial, an_argument, returned, IsEntity, locals_in_all, HasPath, at_target, at_level, same_some, none_some, front, back, both, head_there, head_or_tail, of_each, to_each, tail_there, none_there}, Claims.{Said, Hold, where_said, where_back, when_said, when_back, agree_said, agree_back, path_said, path_back, mode_said, mode_back, unmet_said, unmet_back, cast_said, cast_back, takes_said, takes_back, names_said, names_back, in_all_said, in_all_back, levels_said, levels_back, all_read_said, all_read_back}, Lists.{spread, gather}, Walk.{argument_notes, own_notes, OwnSaid, ReceiverSaid, TransferSaid, InitialSaid, LocalSaid, FunctionSaid, items_said, items_back}}
+use Rattle.sharc_check.proofs.{Imports.{◌≡◌, ◌↔◌, ⊎_elim, ◌+◌, ℕ, zero, suc, Bool, true, false, ◌&&◌, cond, arith, List, [], ◌∷◌, ◌++◌, drop, refl, ap, sym, ◌∙◌, subst, slice_get, Option, Some, None, Contains, false≢true, AllByRecursion, flat_map, list_any, Mode, Locked, Path, Span, Declaration, Identifier, WrittenType, FieldOperator, PlaceCall, Unlock, Free, GlobalDefinition, without_parentheses, in_function, span_of, Expression, Arguments, no_arguments, argument, Right, value, malloc, Local, Function, Numbered, entities_in, numbered, functions_in, globals_in, named_at, kind_at, function_at, global_at, Receiver, lvalue, variable, result, Transfer, passed, parameters_named, function_transfers, ReadonlyWrite, PrivateField, PrivateReachesThread, ReadonlySource, Finding, cell_at, top_of, expected, place_notes, items_notes, Assignment, base_of, span_text, agree_notes, error_where, levels_of, private_notes, path_notes, mode_notes, is_private_level, is_field_role, private_field_notes, names_in_level, names_in_all, names_read, type_notes, first_unmet, unmet_notes, parameter_names, names_at_call, call_notes, cast_notes, taken_variable, source_notes, takes, sibling_notes, PathReading, written, at_call, base_use, declared_row, cast_row, named_row, modes_of, modes_at, Sharing, same_all, is_readonly, is_sibling, text_at, variable_named, object_of, lock_of, place_of, holds_private, first_unfit_path, first_unfit_mode, is_spawned, has_private_target, parameter_notes, spawned_notes, touched_notes, notes_about, IsFunction, IsExpression, IsCall, called, spawned, IsTaken, cast_away, freed, IsAssigned, IsGiven, assigned, initial, an_argument, returned, IsEntity, locals_in_all, HasPath, at_target, at_level, same_some, none_some, front, back, both, head_there, head_or_tail, of_each, to_each, tail_there, none_there}, Claims.{Said, Hold, where_is, when_is, agree_is, path_is, mode_is, unmet_is, cast_is, takes_is, names_are, in_all_are, levels_are, all_read_are}, Lists.{spread, gather}, Walk.{argument_notes, own_notes, OwnSaid, ReceiverSaid, TransferSaid, InitialSaid, LocalSaid, FunctionSaid, items_said, items_back}}
 use Rattle.sharc_tree.specs.declared.tree.expression.PlaceCall.TheVariants.{Lock}
 use Rattle.sharc_tree.specs.Tree as tree
 use Rattle.sharc_mode.specs.Sharings as sharing
@@ -90,92 +90,76 @@ module _ (W : Type 0) (N T : ℕ → Type 0) (m : Assignment) where
     fields : is_field_role n.entity.role ≡ true → list_any is_private_level n.entity.written.ctype.levels ≡ true → W
     named : (path : Path) (x : ℕ) → Contains n.entity.written.ctype.levels (Some (Locked path)) → object_of m.typed (lock_of path) ≡ Some x → N x
 
-  type_holds : (n : Numbered) → H (type_notes m n) → TypeHolds n
-  type_holds n h =
+  type_is : (n : Numbered) → H (type_notes m n) ↔ TypeHolds n
+  type_is n =
       let s = n.entity.written.span in
       let a = private_notes m n in
       let b = path_notes s (unfit n) in
       let c = mode_notes s (misplaced n) in
       let d = private_field_notes m.typed n in
       let e = flat_map (names_in_level m.typed) n.entity.written.ctype.levels in
-      let most = front S (a ++ b ++ c ++ d) e h in
-      let three = front S (a ++ b ++ c) d most in
-      let two = front S (a ++ b) c three in
-      record {
-        private_below = when_said W N T (holds_private (levels_of m n)) _ (front S a b two);
-        paths = λ path is. path_said W N T s (unfit n) path (back S a b two) is;
-        modes = λ mode is. mode_said W N T s (misplaced n) mode (back S (a ++ b) c three) is;
-        fields = λ field is. where_said W N T (list_any is_private_level n.entity.written.ctype.levels) PrivateField s (text_at m.typed n.entity.token) (chosen S (is_field_role n.entity.role) _ (back S (a ++ b ++ c) d most) field) is;
-        named = λ path x has o. levels_said W N T m.typed n.entity.written.ctype.levels path x (back S (a ++ b ++ c ++ d) e h) has o;
-      }
-
-  type_back : (n : Numbered) → TypeHolds n → H (type_notes m n)
-  type_back n h =
-      let s = n.entity.written.span in
-      let a = private_notes m n in
-      let b = path_notes s (unfit n) in
-      let c = mode_notes s (misplaced n) in
-      let d = private_field_notes m.typed n in
-      let e = flat_map (names_in_level m.typed) n.entity.written.ctype.levels in
-      both S (a ++ b ++ c ++ d) e
-      (both S (a ++ b ++ c) d
-      (both S (a ++ b) c
-      (both S a b (when_back W N T (holds_private (levels_of m n)) _ h.private_below) (path_back W N T s (unfit n) h.paths))
-      (mode_back W N T s (misplaced n) h.modes))
-      (choose S (is_field_role n.entity.role) _ (λ field. where_back W N T (list_any is_private_level n.entity.written.ctype.levels) PrivateField s (text_at m.typed n.entity.token) (h.fields field))))
-      (levels_back W N T m.typed n.entity.written.ctype.levels h.named)
+      let field = where_is W N T (list_any is_private_level n.entity.written.ctype.levels) PrivateField s (text_at m.typed n.entity.token) in (
+        λ h.
+            let most = front S (a ++ b ++ c ++ d) e h in
+            let three = front S (a ++ b ++ c) d most in
+            let two = front S (a ++ b) c three in
+            record {
+              private_below = (when_is W N T (holds_private (levels_of m n)) _).0 (front S a b two);
+              paths = (path_is W N T s (unfit n)).0 (back S a b two);
+              modes = (mode_is W N T s (misplaced n)).0 (back S (a ++ b) c three);
+              fields = λ is_field is. field.0 (chosen S (is_field_role n.entity.role) _ (back S (a ++ b ++ c) d most) is_field) is;
+              named = (levels_are W N T m.typed n.entity.written.ctype.levels).0 (back S (a ++ b ++ c ++ d) e h);
+            },
+        λ h.
+            both S (a ++ b ++ c ++ d) e
+            (both S (a ++ b ++ c) d
+            (both S (a ++ b) c
+            (both S a b ((when_is W N T (holds_private (levels_of m n)) _).1 h.private_below) ((path_is W N T s (unfit n)).1 h.paths))
+            ((mode_is W N T s (misplaced n)).1 h.modes))
+            (choose S (is_field_role n.entity.role) _ (λ is_field. field.1 (h.fields is_field))))
+            ((levels_are W N T m.typed n.entity.written.ctype.levels).1 h.named),
+      )
 
   -- ---- what threads get
 
   abbrev IsShown : Declaration → Bool
   IsShown d = has_private_target (modes_of m (declared_row m.typed written d.name.site.token))
 
-  threads_said : (k : ℕ) (fs : List Function) → H (spawned_notes m k fs) → (i j : ℕ) (f : Function) (d : Declaration) → j ≡ k + i → slice_get fs i ≡ Some f → is_spawned m.typed j ≡ true → Contains f.parameters d → IsShown d ≡ true → W
-  threads_said k [] h i j f d at is spawns has shows = absurd (none_some f is)
-  threads_said k (g ∷ rest) h zero j f d at is spawns has shows =
-      let here : j ≡ k = omega (arith, at) in
-      let notes = flat_map (parameter_notes m g.name.text) g.parameters in
-      let all = chosen S (is_spawned m.typed k) notes (front S (cond (is_spawned m.typed k) notes []) (spawned_notes m (k + 1) rest) h) (ap (is_spawned m.typed) (sym here) ∙ spawns) in
-      let each_one = spread S (parameter_notes m g.name.text) g.parameters all in
-      let mine : Contains g.parameters d = subst (λ (x : Function). Contains x.parameters d) (sym (same_some g f is)) has in
-      where_said W N T (IsShown d) PrivateReachesThread d.written.span g.name.text (of_each (λ x. H (parameter_notes m g.name.text x)) g.parameters d each_one mine) shows
-  threads_said k (g ∷ rest) h (suc i) j f d at is spawns has shows =
-      let later : j ≡ k + 1 + i = omega (arith, at) in
-      let notes = flat_map (parameter_notes m g.name.text) g.parameters in
-      threads_said (k + 1) rest (back S (cond (is_spawned m.typed k) notes []) (spawned_notes m (k + 1) rest) h) i j f d later is spawns has shows
+  abbrev thread_notes : ℕ → Function → List Finding
+  thread_notes k f = cond (is_spawned m.typed k) (flat_map (parameter_notes m f.name.text) f.parameters) []
 
-  threads_back : (k : ℕ) (fs : List Function) → ((i j : ℕ) (f : Function) (d : Declaration) → j ≡ k + i → slice_get fs i ≡ Some f → is_spawned m.typed j ≡ true → Contains f.parameters d → IsShown d ≡ true → W) → H (spawned_notes m k fs)
-  threads_back k [] h = tt
-  threads_back k (g ∷ rest) h =
-      let here : k ≡ k + 0 = omega arith in
-      let notes = flat_map (parameter_notes m g.name.text) g.parameters in
-      both S (cond (is_spawned m.typed k) notes []) (spawned_notes m (k + 1) rest)
-      (choose S (is_spawned m.typed k) notes (λ spawns. gather S (parameter_notes m g.name.text) g.parameters
-      (to_each (λ x. H (parameter_notes m g.name.text x)) g.parameters (λ d has. where_back W N T (IsShown d) PrivateReachesThread d.written.span g.name.text (h zero k g d here refl spawns has)))))
-      (threads_back (k + 1) rest (λ i j f d at is. let later : j ≡ k + suc i = omega (arith, at) in h (suc i) j f d later is))
+  thread_is : (k : ℕ) (f : Function) → H (thread_notes k f) ↔ ((d : Declaration) → is_spawned m.typed k ≡ true → Contains f.parameters d → IsShown d ≡ true → W)
+  thread_is k f =
+      let each_note = parameter_notes m f.name.text in (
+        λ h d spawns has shows. (where_is W N T (IsShown d) PrivateReachesThread d.written.span f.name.text).0
+            (of_each (λ x. H (parameter_notes m f.name.text x)) f.parameters d (spread S each_note f.parameters (chosen S (is_spawned m.typed k) (flat_map each_note f.parameters) h spawns)) has) shows,
+        λ h. choose S (is_spawned m.typed k) (flat_map each_note f.parameters) (λ spawns. gather S each_note f.parameters
+            (to_each (λ x. H (parameter_notes m f.name.text x)) f.parameters (λ d has. (where_is W N T (IsShown d) PrivateReachesThread d.written.span f.name.text).1 (h d spawns has)))),
+      )
 
   abbrev shows_private : (ℕ → Bool) → ℕ → GlobalDefinition → Bool
   shows_private touched k g = touched k && is_private_level (top_of g.declaration.written.ctype.levels)
 
-  globals_said : (touched : ℕ → Bool) (k : ℕ) (gs : List GlobalDefinition) → H (touched_notes touched k gs) → (i j : ℕ) (g : GlobalDefinition) → j ≡ k + i → slice_get gs i ≡ Some g → shows_private touched j g ≡ true → W
-  globals_said touched k [] h i j g at is shows = absurd (none_some g is)
-  globals_said touched k (x ∷ rest) h zero j g at is shows =
-      let here : j ≡ k = omega (arith, at) in
-      let first = error_where (shows_private touched k x) PrivateReachesThread x.declaration.written.span x.declaration.name.text in
-      where_said W N T (shows_private touched k x) PrivateReachesThread x.declaration.written.span x.declaration.name.text (front S first (touched_notes touched (k + 1) rest) h)
-      (ap (λ n. shows_private touched n x) (sym here) ∙ ap (shows_private touched j) (same_some x g is) ∙ shows)
-  globals_said touched k (x ∷ rest) h (suc i) j g at is shows =
-      let later : j ≡ k + 1 + i = omega (arith, at) in
-      let first = error_where (shows_private touched k x) PrivateReachesThread x.declaration.written.span x.declaration.name.text in
-      globals_said touched (k + 1) rest (back S first (touched_notes touched (k + 1) rest) h) i j g later is shows
+  abbrev global_notes : (ℕ → Bool) → ℕ → GlobalDefinition → List Finding
+  global_notes touched k g = error_where (shows_private touched k g) PrivateReachesThread g.declaration.written.span g.declaration.name.text
 
-  globals_back : (touched : ℕ → Bool) (k : ℕ) (gs : List GlobalDefinition) → ((i j : ℕ) (g : GlobalDefinition) → j ≡ k + i → slice_get gs i ≡ Some g → shows_private touched j g ≡ true → W) → H (touched_notes touched k gs)
-  globals_back touched k [] h = tt
-  globals_back touched k (x ∷ rest) h =
-      let here : k ≡ k + 0 = omega arith in
-      both S (error_where (shows_private touched k x) PrivateReachesThread x.declaration.written.span x.declaration.name.text) (touched_notes touched (k + 1) rest)
-      (where_back W N T (shows_private touched k x) PrivateReachesThread x.declaration.written.span x.declaration.name.text (h zero k x here refl))
-      (globals_back touched (k + 1) rest (λ i j g at is. let later : j ≡ k + suc i = omega (arith, at) in h (suc i) j g later is))
+  -- notes of the elements of a list, each by its number
+  module _ {A : Type 0} (notes : ℕ → List A → List Finding) (first : ℕ → A → List Finding) (none : (k : ℕ) → notes k [] ≡ []) (more : (k : ℕ) (x : A) (rest : List A) → notes k (x ∷ rest) ≡ first k x ++ notes (k + 1) rest) where
+    numbered_said : (k : ℕ) (xs : List A) → H (notes k xs) → (i j : ℕ) (x : A) → j ≡ k + i → slice_get xs i ≡ Some x → H (first j x)
+    numbered_said k [] h i j x at is = absurd (none_some x is)
+    numbered_said k (y ∷ rest) h zero j x at is =
+        let here : j ≡ k = omega (arith, at) in
+        subst (λ n. H (first n x)) (sym here) (subst (λ z. H (first k z)) (same_some y x is) (front S (first k y) (notes (k + 1) rest) (subst H (more k y rest) h)))
+    numbered_said k (y ∷ rest) h (suc i) j x at is =
+        let later : j ≡ k + 1 + i = omega (arith, at) in
+        numbered_said (k + 1) rest (back S (first k y) (notes (k + 1) rest) (subst H (more k y rest) h)) i j x later is
+
+    numbered_back : (k : ℕ) (xs : List A) → ((i j : ℕ) (x : A) → j ≡ k + i → slice_get xs i ≡ Some x → H (first j x)) → H (notes k xs)
+    numbered_back k [] h = subst H (sym (none k)) tt
+    numbered_back k (y ∷ rest) h =
+        let here : k ≡ k + 0 = omega arith in
+        subst H (sym (more k y rest)) (both S (first k y) (notes (k + 1) rest) (h zero k y here refl)
+        (numbered_back (k + 1) rest (λ i j x at is. let later : j ≡ k + suc i = omega (arith, at) in h (suc i) j x later is)))
 
   -- ---- calls
 
@@ -211,9 +195,9 @@ module _ (W : Type 0) (N T : ℕ → Type 0) (m : Assignment) where
 
   path_names : (how : PathReading) (d : Declaration) (l : sharing.Lock) (x : ℕ) → H (parameter_names m how d) → HasPath m how d l → object_of m.typed l ≡ Some x → N x
   path_names how d _ x h (at_target {l = l} has) o =
-      in_all_said W N T m.typed (modes_of m (declared_row m.typed how d.name.site.token)) l x (front S (names_in_all m.typed (modes_of m (declared_row m.typed how d.name.site.token))) (flat_map (names_read m.typed how) d.written.ctype.levels) h) has o
+      (in_all_are W N T m.typed (modes_of m (declared_row m.typed how d.name.site.token))).0 (front S (names_in_all m.typed (modes_of m (declared_row m.typed how d.name.site.token))) (flat_map (names_read m.typed how) d.written.ctype.levels) h) l x has o
   path_names how d _ x h (at_level {path = path} has) o =
-      all_read_said W N T m.typed how d.written.ctype.levels path x (back S (names_in_all m.typed (modes_of m (declared_row m.typed how d.name.site.token))) (flat_map (names_read m.typed how) d.written.ctype.levels) h) has o
+      (all_read_are W N T m.typed how d.written.ctype.levels).0 (back S (names_in_all m.typed (modes_of m (declared_row m.typed how d.name.site.token))) (flat_map (names_read m.typed how) d.written.ctype.levels) h) path x has o
 
   record CallHolds (ds : List Declaration) (all : Arguments) : Type 0 where
     unmet : (l : sharing.Lock) → first_unmet m ds all ds ≡ Some l → W
@@ -223,41 +207,33 @@ module _ (W : Type 0) (N T : ℕ → Type 0) (m : Assignment) where
   call_holds s ds all h =
       let names = spread S (parameter_names m (at_call ds all)) ds (back S (unmet_notes m.typed s (first_unmet m ds all ds)) (names_at_call m ds all ds) h) in
       record {
-        unmet = λ l is. unmet_said W N T m.typed s (first_unmet m ds all ds) l (front S (unmet_notes m.typed s (first_unmet m ds all ds)) (names_at_call m ds all ds) h) is;
+        unmet = (unmet_is W N T m.typed s (first_unmet m ds all ds)).0 (front S (unmet_notes m.typed s (first_unmet m ds all ds)) (names_at_call m ds all ds) h);
         named = λ d l x has path o. path_names (at_call ds all) d l x (of_each (λ y. H (parameter_names m (at_call ds all) y)) ds d names has) path o;
       }
 
   call_back : (s : Span) (ds : List Declaration) (all : Arguments) → CallHolds ds all → H (call_notes m s ds all)
   call_back s ds all h =
-      both S (unmet_notes m.typed s (first_unmet m ds all ds)) (names_at_call m ds all ds) (unmet_back W N T m.typed s (first_unmet m ds all ds) h.unmet)
+      both S (unmet_notes m.typed s (first_unmet m ds all ds)) (names_at_call m ds all ds) ((unmet_is W N T m.typed s (first_unmet m ds all ds)).1 h.unmet)
       (gather S (parameter_names m (at_call ds all)) ds (to_each (λ y. H (parameter_names m (at_call ds all) y)) ds (λ d has.
       both S (names_in_all m.typed (modes_of m (declared_row m.typed (at_call ds all) d.name.site.token))) (flat_map (names_read m.typed (at_call ds all)) d.written.ctype.levels)
-      (in_all_back W N T m.typed (modes_of m (declared_row m.typed (at_call ds all) d.name.site.token)) (λ l x there o. h.named d l x has (at_target there) o))
-      (all_read_back W N T m.typed (at_call ds all) d.written.ctype.levels (λ path x there o. h.named d _ x has (at_level there) o)))))
+      ((in_all_are W N T m.typed (modes_of m (declared_row m.typed (at_call ds all) d.name.site.token))).1 (λ l x there o. h.named d l x has (at_target there) o))
+      ((all_read_are W N T m.typed (at_call ds all) d.written.ctype.levels).1 (λ path x there o. h.named d _ x has (at_level there) o)))))
 
   -- ---- what is taken, and fields
 
-  source_said : (a : Expression) → H (source_notes m a) → is_readonly (cell_at m a) ≡ true → W
-  source_said a h is =
-      where_said W N T (is_readonly (cell_at m a)) ReadonlySource (span_of a) (span_text m.typed (span_of a))
-      (front S (error_where (is_readonly (cell_at m a)) ReadonlySource (span_of a) (span_text m.typed (span_of a))) (takes (span_of a) (taken_variable m.typed (without_parentheses a))) h) is
+  source_is : (a : Expression) → H (source_notes m a) ↔ ((is_readonly (cell_at m a) ≡ true → W) × ((x : ℕ) → taken_variable m.typed (without_parentheses a) ≡ Some x → T x))
+  source_is a =
+      let r = error_where (is_readonly (cell_at m a)) ReadonlySource (span_of a) (span_text m.typed (span_of a)) in
+      let t = takes (span_of a) (taken_variable m.typed (without_parentheses a)) in
+      let wrong = where_is W N T (is_readonly (cell_at m a)) ReadonlySource (span_of a) (span_text m.typed (span_of a)) in
+      let taken = takes_is W N T (span_of a) (taken_variable m.typed (without_parentheses a)) in
+      (λ h. (wrong.0 (front S r t h), taken.0 (back S r t h)), λ h. both S r t (wrong.1 h.0) (taken.1 h.1))
 
-  source_taken : (a : Expression) (x : ℕ) → H (source_notes m a) → taken_variable m.typed (without_parentheses a) ≡ Some x → T x
-  source_taken a x h is =
-      takes_said W N T (span_of a) (taken_variable m.typed (without_parentheses a)) x
-      (back S (error_where (is_readonly (cell_at m a)) ReadonlySource (span_of a) (span_text m.typed (span_of a))) (takes (span_of a) (taken_variable m.typed (without_parentheses a))) h) is
-
-  siblings_said : (s : Span) (o : Option ℕ) → H (sibling_notes m.typed s o) → o ≡ None → W
-  siblings_said s None h is = h.0
-  siblings_said s (Some at) h is = absurd (none_some at (sym is))
-
-  siblings_named : (s : Span) (o : Option ℕ) (at x : ℕ) → H (sibling_notes m.typed s o) → o ≡ Some at → variable_named (named_at m.typed at) ≡ Some x → N x
-  siblings_named s None at x h is v = absurd (none_some at is)
-  siblings_named s (Some b) at x h is v = names_said W N T (variable_named (named_at m.typed b)) x h (ap (λ z. variable_named (named_at m.typed z)) (same_some b at is) ∙ v)
-
-  siblings_back : (s : Span) (o : Option ℕ) → (o ≡ None → W) → ((at x : ℕ) → o ≡ Some at → variable_named (named_at m.typed at) ≡ Some x → N x) → H (sibling_notes m.typed s o)
-  siblings_back s None w n = (w refl, tt)
-  siblings_back s (Some at) w n = names_back W N T (variable_named (named_at m.typed at)) (λ x v. n at x refl v)
+  siblings_are : (s : Span) (o : Option ℕ) → H (sibling_notes m.typed s o) ↔ ((o ≡ None → W) × ((at x : ℕ) → o ≡ Some at → variable_named (named_at m.typed at) ≡ Some x → N x))
+  siblings_are s None = (λ h. (λ is. h.0, λ at x is v. absurd (none_some at is)), λ h. (h.0 refl, tt))
+  siblings_are s (Some b) =
+      let names = names_are W N T (variable_named (named_at m.typed b)) in
+      (λ h. (λ is. absurd (none_some b (sym is)), λ at x is v. names.0 h x (ap (λ z. variable_named (named_at m.typed z)) (same_some b at is) ∙ v)), λ h. names.1 (λ x v. h.1 b x refl v))
 
   -- ---- all of it
 
@@ -290,23 +266,23 @@ module _ (W : Type 0) (N T : ℕ → Type 0) (m : Assignment) where
     given_agree : (to : List Sharing) (e : Expression) → IsGiven m to e → (found : List Sharing) → modes_at m e ≡ Some found → same_all m.typed to found ≡ false → W
     given_agree _ _ (assigned {u = u} {e = e} {modes = modes} a is) found f same =
         let t : TransferSaid m S a.owner.name.site.token record { receiver = lvalue u; source = value e } = of_each (TransferSaid m S a.owner.name.site.token) (function_transfers m.typed a.owner) record { receiver = lvalue u; source = value e } (h.functions a.owner a.stands).1 a.does in
-        agree_said W N T m.typed (span_of e) (base_of (kind_at m.typed e)) (modes_at m u) (modes_at m e) modes found t.1 is f same
+        (agree_is W N T m.typed (span_of e) (base_of (kind_at m.typed e)) (modes_at m u) (modes_at m e)).0 t.1 modes found is f same
     given_agree _ _ (initial {f = g} {l = l} {e = e} fn has is) found f same =
         let modes = modes_of m (declared_row m.typed written l.declaration.name.site.token) in
         let i : InitialSaid m S l.declaration l.initial = of_each (LocalSaid m S) (locals_in_all g.statements) l (h.functions g fn).2 has in
-        agree_said W N T m.typed (span_of e) (base_of (kind_at m.typed e)) (Some modes) (modes_at m e) modes found (subst (InitialSaid m S l.declaration) is i) refl f same
+        (agree_is W N T m.typed (span_of e) (base_of (kind_at m.typed e)) (Some modes) (modes_at m e)).0 (subst (InitialSaid m S l.declaration) is i) modes found refl f same
     given_agree _ _ (an_argument {parameters = ds} {all = all} {d = d} {e = e} c has) found f same =
         let modes = modes_of m (declared_row m.typed (at_call ds all) d.name.site.token) in
-        agree_said W N T m.typed (span_of e) (base_of (kind_at m.typed e)) (Some modes) (modes_at m e) modes found (arguments_said ds all ds all (call_arguments ds all c) d e has) refl f same
+        (agree_is W N T m.typed (span_of e) (base_of (kind_at m.typed e)) (Some modes) (modes_at m e)).0 (arguments_said ds all ds all (call_arguments ds all c) d e has) modes found refl f same
     given_agree _ _ (returned {f = g} {w = w} {e = e} fn has) found f same =
         let modes = modes_of m (declared_row m.typed written g.name.site.token) in
         let t : TransferSaid m S g.name.site.token record { receiver = result w; source = value e } = of_each (TransferSaid m S g.name.site.token) (function_transfers m.typed g) record { receiver = result w; source = value e } (h.functions g fn).1 has in
-        agree_said W N T m.typed (span_of e) (base_of (kind_at m.typed e)) (Some modes) (modes_at m e) modes found t refl f same
+        (agree_is W N T m.typed (span_of e) (base_of (kind_at m.typed e)) (Some modes) (modes_at m e)).0 t modes found refl f same
 
     write_said : (u : Expression) (x : Right) → IsAssigned m u x → is_readonly (cell_at m u) ≡ true → W
     write_said u x a is =
         let t : TransferSaid m S a.owner.name.site.token record { receiver = lvalue u; source = x } = of_each (TransferSaid m S a.owner.name.site.token) (function_transfers m.typed a.owner) record { receiver = lvalue u; source = x } (h.functions a.owner a.stands).1 a.does in
-        where_said W N T (is_readonly (cell_at m u)) ReadonlyWrite (span_of u) (span_text m.typed (span_of u)) t.0 is
+        (where_is W N T (is_readonly (cell_at m u)) ReadonlyWrite (span_of u) (span_text m.typed (span_of u))).0 t.0 is
 
     field_said : (s : Span) (a : Expression) (w : FieldOperator) (n : Identifier) → IsExpression m (tree.field s a w n)
         → list_any (is_sibling m.typed) (modes_of m (named_row m.typed written (named_at m.typed n.site.token))) ≡ true → H (sibling_notes m.typed s (base_use m.typed w a))
@@ -314,34 +290,39 @@ module _ (W : Type 0) (N T : ℕ → Type 0) (m : Assignment) where
         chosen S (list_any (is_sibling m.typed) (modes_of m (named_row m.typed written (named_at m.typed n.site.token)))) (sibling_notes m.typed s (base_use m.typed w a)) (own (tree.field s a w n) x) is
 
     name_said : (x : ℕ) → Named m x → N x
-    name_said x (by_type {n = n} {path = path} at has o) = (type_holds n (h.types n at)).named path x has o
+    name_said x (by_type {n = n} {path = path} at has o) = ((type_is n).0 (h.types n at)).named path x has o
     name_said x (by_call {ds = ds} {all = all} {d = d} {l = l} c has path o) = (call_said ds all c).named d l x has path o
-    name_said x (by_use {s = s} {a = a} {w = w} {n = n} {at = at} e is b v) = siblings_named s (base_use m.typed w a) at x (field_said s a w n e is) b v
+    name_said x (by_use {s = s} {a = a} {w = w} {n = n} {at = at} e is b v) = ((siblings_are s (base_use m.typed w a)).0 (field_said s a w n e is)).1 at x b v
 
     pub holds : Holds W N T m touched
     holds = record {
       given = λ to found e g f same. given_agree to e g found f same;
       assigned = write_said;
-      private_below = λ n at. (type_holds n (h.types n at)).private_below;
-      paths = λ n path at. (type_holds n (h.types n at)).paths path;
-      modes = λ n mode at. (type_holds n (h.types n at)).modes mode;
-      fields = λ n at. (type_holds n (h.types n at)).fields;
-      parameters = λ k f d is spawns has shows. let at : k ≡ 0 + k = omega arith in threads_said 0 (functions_in m.typed.program.items) h.threads k k f d at is spawns has shows;
-      globals = λ k g is shows. let at : k ≡ 0 + k = omega arith in globals_said touched 0 (globals_in m.typed.program.items) h.globals k k g at is shows;
+      private_below = λ n at. ((type_is n).0 (h.types n at)).private_below;
+      paths = λ n path at. ((type_is n).0 (h.types n at)).paths path;
+      modes = λ n mode at. ((type_is n).0 (h.types n at)).modes mode;
+      fields = λ n at. ((type_is n).0 (h.types n at)).fields;
+      parameters = λ k f d is spawns has shows.
+          let at : k ≡ 0 + k = omega arith in
+          (thread_is k f).0 (numbered_said (spawned_notes m) thread_notes (λ k. refl) (λ k x rest. refl) 0 (functions_in m.typed.program.items) h.threads k k f at is) d spawns has shows;
+      globals = λ k g is shows.
+          let at : k ≡ 0 + k = omega arith in
+          (where_is W N T (shows_private touched k g) PrivateReachesThread g.declaration.written.span g.declaration.name.text).0
+          (numbered_said (touched_notes touched) (global_notes touched) (λ k. refl) (λ k x rest. refl) 0 (globals_in m.typed.program.items) h.globals k k g at is) shows;
       casts = λ s t a found x f same.
-          cast_said W N T m.typed t.span t.ctype.base (modes_of m (cast_row m.typed s)) (modes_at m a) found
-          (back S (source_notes m a) (cast_notes m.typed t.span t.ctype.base (modes_of m (cast_row m.typed s)) (modes_at m a)) (own (tree.cast s t a) x)) f same;
-      readonly_taken = λ a t is. source_said a (taken_source a t) is;
+          (cast_is W N T m.typed t.span t.ctype.base (modes_of m (cast_row m.typed s)) (modes_at m a)).0
+          (back S (source_notes m a) (cast_notes m.typed t.span t.ctype.base (modes_of m (cast_row m.typed s)) (modes_at m a)) (own (tree.cast s t a) x)) found f same;
+      readonly_taken = λ a t is. ((source_is a).0 (taken_source a t)).0 is;
       unmet = λ ds all l c is. (call_said ds all c).unmet l is;
-      siblings = λ s a w n x is none. siblings_said s (base_use m.typed w a) (field_said s a w n x is) none;
+      siblings = λ s a w n x is none. ((siblings_are s (base_use m.typed w a)).0 (field_said s a w n x is)).0 none;
       named = name_said;
-      taken = λ a x t is. source_taken a x (taken_source a t) is;
+      taken = λ a x t is. ((source_is a).0 (taken_source a t)).1 x is;
     }
 
   module _ (touched : ℕ → Bool) (h : Holds W N T m touched) where
     given_back : (modes : List Sharing) (e : Expression) → IsGiven m modes e → H (agree_notes m (Some modes) e)
     given_back modes e g =
-        agree_back W N T m.typed (span_of e) (base_of (kind_at m.typed e)) (Some modes) (modes_at m e)
+        (agree_is W N T m.typed (span_of e) (base_of (kind_at m.typed e)) (Some modes) (modes_at m e)).1
         (λ to from w f same. h.given modes from e g f (ap (λ z. same_all m.typed z from) (same_some modes to w) ∙ same))
 
     call_there : (ds : List Declaration) (all : Arguments) → IsCall m ds all → (s : Span) → H (call_notes m s ds all)
@@ -351,20 +332,13 @@ module _ (W : Type 0) (N T : ℕ → Type 0) (m : Assignment) where
     arguments_there ds all c = arguments_back ds all ds all (λ d e has. given_back (modes_of m (declared_row m.typed (at_call ds all) d.name.site.token)) e (an_argument c has))
 
     source_there : (a : Expression) → IsTaken m a → H (source_notes m a)
-    source_there a t =
-        both S (error_where (is_readonly (cell_at m a)) ReadonlySource (span_of a) (span_text m.typed (span_of a))) (takes (span_of a) (taken_variable m.typed (without_parentheses a)))
-        (where_back W N T (is_readonly (cell_at m a)) ReadonlySource (span_of a) (span_text m.typed (span_of a)) (h.readonly_taken a t))
-        (takes_back W N T (span_of a) (taken_variable m.typed (without_parentheses a)) (λ x is. h.taken a x t is))
+    source_there a t = (source_is a).1 (h.readonly_taken a t, λ x is. h.taken a x t is)
 
     place_there_said : (s : Span) (w : PlaceCall) (a : Expression) → IsExpression m (tree.on_place s w a) → H (place_notes m w a)
-    place_there_said s Lock a x = tt
-    place_there_said s Unlock a x = tt
     place_there_said s Free a x = source_there a (freed x)
+    place_there_said s _ a x = tt
 
     own_there : (e : Expression) → IsExpression m e → H (own_notes m e)
-    own_there (tree.identifier s i) x = tt
-    own_there (tree.constant s c) x = tt
-    own_there (tree.parentheses s a) x = tt
     own_there (tree.call s f all) x =
         let ds = parameters_named m.typed (named_at m.typed f.site.token) in
         both S (argument_notes m ds all ds all) (call_notes m s ds all) (arguments_there ds all (called x)) (call_there ds all (called x) s)
@@ -372,34 +346,30 @@ module _ (W : Type 0) (N T : ℕ → Type 0) (m : Assignment) where
         let ds = parameters_named m.typed (named_at m.typed f.site.token) in
         let agree = agree_notes m (expected m ds (argument a no_arguments) ds) a in
         both S agree (call_notes m s ds (argument a no_arguments)) (front S agree [] (arguments_there ds (argument a no_arguments) (spawned x))) (call_there ds (argument a no_arguments) (spawned x) s)
-    own_there (tree.on_value s w a) x = tt
     own_there (tree.on_place s w a) x = place_there_said s w a x
     own_there (tree.cast s t a) x =
         both S (source_notes m a) (cast_notes m.typed t.span t.ctype.base (modes_of m (cast_row m.typed s)) (modes_at m a)) (source_there a (cast_away x))
-        (cast_back W N T m.typed t.span t.ctype.base (modes_of m (cast_row m.typed s)) (modes_at m a) (λ from f same. h.casts s t a from x f same))
-    own_there (tree.index s a i) x = tt
+        ((cast_is W N T m.typed t.span t.ctype.base (modes_of m (cast_row m.typed s)) (modes_at m a)).1 (λ from f same. h.casts s t a from x f same))
     own_there (tree.field s a w n) x =
         choose S (list_any (is_sibling m.typed) (modes_of m (named_row m.typed written (named_at m.typed n.site.token)))) (sibling_notes m.typed s (base_use m.typed w a))
-        (λ is. siblings_back s (base_use m.typed w a) (λ none. h.siblings s a w n x is none) (λ at y b v. h.named y (by_use x is b v)))
-    own_there (tree.unary s o a) x = tt
-    own_there (tree.binary s o at a b) x = tt
+        (λ is. (siblings_are s (base_use m.typed w a)).1 (λ none. h.siblings s a w n x is none, λ at y b v. h.named y (by_use x is b v)))
+    own_there _ x = tt
 
     transfer_there : (f : Function) → IsFunction m f → (receiver : Receiver) (source : Right) → Contains (function_transfers m.typed f) record { receiver = receiver; source = source } → ReceiverSaid m S f.name.site.token receiver source
     transfer_there f fn (lvalue u) (value e) has =
         let a : IsAssigned m u (value e) = record { owner = f; stands = fn; does = has } in (
-          where_back W N T (is_readonly (cell_at m u)) ReadonlyWrite (span_of u) (span_text m.typed (span_of u)) (h.assigned u (value e) a),
-          agree_back W N T m.typed (span_of e) (base_of (kind_at m.typed e)) (modes_at m u) (modes_at m e) (λ to from w g same. h.given to from e (assigned a w) g same),
+          (where_is W N T (is_readonly (cell_at m u)) ReadonlyWrite (span_of u) (span_text m.typed (span_of u))).1 (h.assigned u (value e) a),
+          (agree_is W N T m.typed (span_of e) (base_of (kind_at m.typed e)) (modes_at m u) (modes_at m e)).1 (λ to from w g same. h.given to from e (assigned a w) g same),
         )
     transfer_there f fn (lvalue u) (malloc s n t) has =
-        (where_back W N T (is_readonly (cell_at m u)) ReadonlyWrite (span_of u) (span_text m.typed (span_of u)) (h.assigned u (malloc s n t) (record { owner = f; stands = fn; does = has })), tt)
+        ((where_is W N T (is_readonly (cell_at m u)) ReadonlyWrite (span_of u) (span_text m.typed (span_of u))).1 (h.assigned u (malloc s n t) (record { owner = f; stands = fn; does = has })), tt)
     transfer_there f fn (variable d) x has = tt
     transfer_there f fn (result w) (value e) has = given_back (modes_of m (declared_row m.typed written f.name.site.token)) e (returned fn has)
     transfer_there f fn (result w) (malloc s n t) has = tt
 
     initial_there : (f : Function) → IsFunction m f → (l : Local) → Contains (locals_in_all f.statements) l → (o : Option Right) → l.initial ≡ o → InitialSaid m S l.declaration o
-    initial_there f fn l has None is = tt
     initial_there f fn l has (Some (value e)) is = given_back (modes_of m (declared_row m.typed written l.declaration.name.site.token)) e (initial fn has is)
-    initial_there f fn l has (Some (malloc s n t)) is = tt
+    initial_there f fn l has _ is = tt
 
     function_there : (f : Function) → IsFunction m f → FunctionSaid m S f
     function_there f fn = (
@@ -410,14 +380,18 @@ module _ (W : Type 0) (N T : ℕ → Type 0) (m : Assignment) where
 
     pub from_holds : Facts m touched S
     from_holds = record {
-      types = λ n at. type_back n (record {
+      types = λ n at. (type_is n).1 (record {
         private_below = h.private_below n at;
         paths = λ path is. h.paths n path at is;
         modes = λ mode is. h.modes n mode at is;
         fields = h.fields n at;
         named = λ path x has o. h.named x (by_type at has o);
       });
-      threads = threads_back 0 (functions_in m.typed.program.items) (λ i j f d at is spawns has shows. let same : j ≡ i = omega (arith, at) in h.parameters j f d (ap (slice_get (functions_in m.typed.program.items)) same ∙ is) spawns has shows);
-      globals = globals_back touched 0 (globals_in m.typed.program.items) (λ i j g at is shows. let same : j ≡ i = omega (arith, at) in h.globals j g (ap (slice_get (globals_in m.typed.program.items)) same ∙ is) shows);
+      threads = numbered_back (spawned_notes m) thread_notes (λ k. refl) (λ k x rest. refl) 0 (functions_in m.typed.program.items)
+          (λ i j f at is. let same : j ≡ i = omega (arith, at) in (thread_is j f).1 (λ d. h.parameters j f d (ap (slice_get (functions_in m.typed.program.items)) same ∙ is)));
+      globals = numbered_back (touched_notes touched) (global_notes touched) (λ k. refl) (λ k x rest. refl) 0 (globals_in m.typed.program.items)
+          (λ i j g at is.
+          let same : j ≡ i = omega (arith, at) in
+          (where_is W N T (shows_private touched j g) PrivateReachesThread g.declaration.written.span g.declaration.name.text).1 (h.globals j g (ap (slice_get (globals_in m.typed.program.items)) same ∙ is)));
       functions = function_there;
     }

@@ -64,11 +64,8 @@ fine_all m touched h =
 -- ---- small readings
 
 readonly_is : (s : Sharing) → is_readonly s ≡ true → s ≡ readonly
-readonly_is private h = absurd (false≢true h)
 readonly_is readonly h = refl
-readonly_is (locked l) h = absurd (false≢true h)
-readonly_is racy h = absurd (false≢true h)
-readonly_is dynamic h = absurd (false≢true h)
+readonly_is _ h = absurd (false≢true h)
 
 record IsSiblingLock (r : Resolution) (s : Sharing) : Type 0 where
   lock : Lock
@@ -76,11 +73,8 @@ record IsSiblingLock (r : Resolution) (s : Sharing) : Type 0 where
   sibling : is_sibling_lock r lock ≡ true
 
 sibling_is : (r : Resolution) (s : Sharing) → is_sibling r s ≡ true → IsSiblingLock r s
-sibling_is r private h = absurd (false≢true h)
-sibling_is r readonly h = absurd (false≢true h)
 sibling_is r (locked l) h = record { lock = l; is = refl; sibling = h }
-sibling_is r racy h = absurd (false≢true h)
-sibling_is r dynamic h = absurd (false≢true h)
+sibling_is r _ h = absurd (false≢true h)
 
 abbrev modes_used : Assignment → Identifier → List Sharing
 modes_used m n = modes_of m (named_row m.typed written (named_at m.typed n.site.token))
@@ -104,27 +98,13 @@ constant_by r s i x true is constant h = (x, through is constant)
 constant_by r s i x false is constant h = absurd (h refl)
 
 named_by : (r : Resolution) (s : Span) (i : Identifier) (what : Named) → named_at r i.site.token ≡ what → (token_if (is_constant_named r what) i.site.token ≡ None → ⊥) → (y : ℕ) × IsThroughConstant r Arrow (tree.identifier s i) y
-named_by r s i (Named.Struct n) is h = absurd (h refl)
-named_by r s i (Named.Global n) is h = absurd (h refl)
-named_by r s i (Named.Function n) is h = absurd (h refl)
 named_by r s i (Named.Variable x) is h = constant_by r s i x (is_constant r x) is refl h
-named_by r s i (Named.Field n) is h = absurd (h refl)
-named_by r s i Named.Known is h = absurd (h refl)
+named_by r s i _ is h = absurd (h refl)
 
 through_by : (r : Resolution) (w : FieldOperator) (a : Expression) → (base_use r w a ≡ None → ⊥) → (x : ℕ) × IsThroughConstant r w a x
 through_by r Dot a h = absurd (h refl)
 through_by r Arrow (tree.identifier s i) h = named_by r s i (named_at r i.site.token) refl h
-through_by r Arrow (tree.constant s c) h = absurd (h refl)
-through_by r Arrow (tree.parentheses s a) h = absurd (h refl)
-through_by r Arrow (tree.call s f all) h = absurd (h refl)
-through_by r Arrow (tree.spawn s f a) h = absurd (h refl)
-through_by r Arrow (tree.on_value s w a) h = absurd (h refl)
-through_by r Arrow (tree.on_place s w a) h = absurd (h refl)
-through_by r Arrow (tree.cast s t a) h = absurd (h refl)
-through_by r Arrow (tree.index s a i) h = absurd (h refl)
-through_by r Arrow (tree.field s a w n) h = absurd (h refl)
-through_by r Arrow (tree.unary s o a) h = absurd (h refl)
-through_by r Arrow (tree.binary s o at a b) h = absurd (h refl)
+through_by r Arrow _ h = absurd (h refl)
 
 record IsBase (r : Resolution) (w : FieldOperator) (a : Expression) (x : ℕ) : Type 0 where
   at : ℕ
@@ -135,12 +115,8 @@ base_by : (r : Resolution) (w : FieldOperator) (a : Expression) (x : ℕ) → Is
 base_by r _ _ x (through {s = s} {i = i} is constant) = record { at = i.site.token; base = ap (λ b. token_if b i.site.token) (ap (is_constant_named r) is ∙ constant); names = is }
 
 variable_is : (what : Named) (x : ℕ) → variable_named what ≡ Some x → what ≡ Named.Variable x
-variable_is (Named.Struct n) x h = absurd (none_some x h)
-variable_is (Named.Global n) x h = absurd (none_some x h)
-variable_is (Named.Function n) x h = absurd (none_some x h)
 variable_is (Named.Variable y) x h = ap Named.Variable (same_some y x h)
-variable_is (Named.Field n) x h = absurd (none_some x h)
-variable_is Named.Known x h = absurd (none_some x h)
+variable_is _ x h = absurd (none_some x h)
 
 same_variable : (x y : ℕ) → Named.Variable x ≡ Named.Variable y → x ≡ y
 same_variable x y h = cc
@@ -176,17 +152,7 @@ record IsName (r : Resolution) (e : Expression) (x : ℕ) : Type 0 where
 
 taken_is : (r : Resolution) (e : Expression) (x : ℕ) → taken_variable r e ≡ Some x → IsName r e x
 taken_is r (tree.identifier s i) x h = record { span = s; name = i; is = refl; object = h }
-taken_is r (tree.constant s c) x h = absurd (none_some x h)
-taken_is r (tree.parentheses s a) x h = absurd (none_some x h)
-taken_is r (tree.call s f all) x h = absurd (none_some x h)
-taken_is r (tree.spawn s f a) x h = absurd (none_some x h)
-taken_is r (tree.on_value s w a) x h = absurd (none_some x h)
-taken_is r (tree.on_place s w a) x h = absurd (none_some x h)
-taken_is r (tree.cast s t a) x h = absurd (none_some x h)
-taken_is r (tree.index s a i) x h = absurd (none_some x h)
-taken_is r (tree.field s a w n) x h = absurd (none_some x h)
-taken_is r (tree.unary s o a) x h = absurd (none_some x h)
-taken_is r (tree.binary s o at a b) x h = absurd (none_some x h)
+taken_is r _ x h = absurd (none_some x h)
 
 -- ---- the law
 

@@ -43,10 +43,7 @@ at_position m n i x is =
 
 pub private_is : (mode : Mode) → is_private_mode mode ≡ true → mode ≡ Private
 private_is Private h = refl
-private_is Readonly h = absurd (false≢true h)
-private_is (Locked path) h = absurd (false≢true h)
-private_is Racy h = absurd (false≢true h)
-private_is Dynamic h = absurd (false≢true h)
+private_is _ h = absurd (false≢true h)
 
 -- what leads to nothing where it is not private is
 pub private_else : (mode : Mode) (b : Bool) → is_private_mode mode ≡ b → (is_private_mode mode ≡ false → ⊥) → mode ≡ Private
@@ -62,9 +59,8 @@ begins_by (None ∷ below) is = absurd (none_some Private (same_some None (Some 
 begins_by (Some x ∷ below) is = ap is_private_mode (same_some x Private (same_some (Some x) (Some Private) is))
 
 begun_by : (list : List (Option Mode)) → begins_private list ≡ true → slice_get list 0 ≡ Some (Some Private)
-begun_by [] h = absurd (false≢true h)
-begun_by (None ∷ below) h = absurd (false≢true h)
 begun_by (Some x ∷ below) h = ap (λ y. Some (Some y)) (private_is x h)
+begun_by _ h = absurd (false≢true h)
 
 above_by : (a b : Bool) → a ≡ false → b ≡ true → (not a && b) ≡ true
 above_by true b is h = absurd (true≢false is)
@@ -151,21 +147,15 @@ levels_to Role.Made levels ps h = topped Role.Made levels (top_of levels) ps ref
 
 levels_from : (what : Role) (levels ps : List (Option Mode)) → holds_private ps ≡ true → holds_private (top_levels what levels ++ ps) ≡ true
 levels_from Role.Global levels ps h = h
-levels_from Role.Field levels ps h = holds_later (top_of levels) ps h
 levels_from Role.Local levels ps h = holds_later (option_or (top_of levels) (Some Private)) ps h
 levels_from Role.Parameter levels ps h = holds_later (option_or (top_of levels) (Some Private)) ps h
-levels_from Role.Result levels ps h = holds_later (top_of levels) ps h
-levels_from Role.Cast levels ps h = holds_later (top_of levels) ps h
-levels_from Role.Made levels ps h = holds_later (top_of levels) ps h
+levels_from _ levels ps h = holds_later (top_of levels) ps h
 
 levels_by : (what : Role) (levels ps : List (Option Mode)) (x : Mode) → (what ≡ Role.Global → ⊥) → top_of levels ≡ Some x → is_private_mode x ≡ false → slice_get ps 0 ≡ Some (Some Private) → holds_private (top_levels what levels ++ ps) ≡ true
 levels_by Role.Global levels ps x other is s below = absurd (other refl)
-levels_by Role.Field levels ps x other is s below = holds_top (top_of levels) ps x is s below
 levels_by Role.Local levels ps x other is s below = holds_top (option_or (top_of levels) (Some Private)) ps x (private_or (top_of levels) x is) s below
 levels_by Role.Parameter levels ps x other is s below = holds_top (option_or (top_of levels) (Some Private)) ps x (private_or (top_of levels) x is) s below
-levels_by Role.Result levels ps x other is s below = holds_top (top_of levels) ps x is s below
-levels_by Role.Cast levels ps x other is s below = holds_top (top_of levels) ps x is s below
-levels_by Role.Made levels ps x other is s below = holds_top (top_of levels) ps x is s below
+levels_by _ levels ps x other is s below = holds_top (top_of levels) ps x is s below
 
 top_written : (levels : List (Option Mode)) (x : Mode) → slice_get levels 0 ≡ Some (Some x) → top_of levels ≡ Some x
 top_written [] x is = absurd (none_some (Some x) is)

@@ -2,21 +2,15 @@
 use Rattle.sharc_check.proofs.{Imports.{◌≡◌, ℕ, zero, suc, ◌+◌, ◌<◌, true, not, ◌&&◌, List, [], ◌∷◌, length, slice_get, refl, ap, sym, ◌∙◌, arith, Option, Some, None, false≢true, and_parts, and_from, list_any, Base, Mode, Private, Readonly, Locked, Racy, Dynamic, Role, Entity, Place, is_private_level, is_field_role, place_of, is_private_mode, is_racy_mode, base_allows, level_allows, top_allows, unfit_mode, unfit_top, unfit_mode_in, first_unfit_mode, IsWritten, HasPrivateTop, of_variable, of_result, IsModeAllowed, same_some, none_some, place_of_element, place_there}, Levels.private_is, Lists.{passes_there, passes_by}, Options.{or_none, none_or, unless_none, none_unless, none_of}}
 
 racy_is : (mode : Mode) → is_racy_mode mode ≡ true → mode ≡ Racy
-racy_is Private h = absurd (false≢true h)
-racy_is Readonly h = absurd (false≢true h)
-racy_is (Locked path) h = absurd (false≢true h)
 racy_is Racy h = refl
-racy_is Dynamic h = absurd (false≢true h)
+racy_is _ h = absurd (false≢true h)
 
 not_racy : (mode : Mode) → not (is_racy_mode mode) ≡ true → mode ≡ Racy → ⊥
 not_racy mode h is = false≢true (sym (ap (λ z. not (is_racy_mode z)) is) ∙ h)
 
 unraced : (mode : Mode) → (mode ≡ Racy → ⊥) → not (is_racy_mode mode) ≡ true
-unraced Private h = refl
-unraced Readonly h = refl
-unraced (Locked path) h = refl
 unraced Racy h = absurd (h refl)
-unraced Dynamic h = refl
+unraced _ h = refl
 
 -- ---- a level with this many below it
 
@@ -33,12 +27,9 @@ base_rules b mode h = record {
 }
 
 rules_base : (b : Base) (mode : Mode) → LevelRules b 0 mode → base_allows b mode ≡ true
-rules_base Base.Int mode h = refl
-rules_base Base.Char mode h = refl
-rules_base Base.Long mode h = refl
-rules_base Base.Void mode h = refl
 rules_base Base.Mutex mode h = ap is_racy_mode (h.mutex refl refl)
 rules_base (Base.Struct name) mode h = unraced mode (h.struct name refl refl)
+rules_base _ mode h = refl
 
 level_rules : (b : Base) (below : List (Option Mode)) (mode : Mode) → level_allows b below mode ≡ true → LevelRules b (length below) mode
 level_rules b [] mode h = base_rules b mode h
@@ -97,10 +88,9 @@ private_top _ mode h of_variable = private_is mode h
 private_top _ mode h of_result = private_is mode h
 
 top_private : (p : Place) (mode : Mode) → (HasPrivateTop p → mode ≡ Private) → top_allows p mode ≡ true
-top_private Place.Global mode h = refl
-top_private Place.Field mode h = refl
 top_private Place.Local mode h = ap is_private_mode (h of_variable)
 top_private Place.Result mode h = ap is_private_mode (h of_result)
+top_private _ mode h = refl
 
 -- what holds of a level with this many below it
 from_below : (e : Entity) (depth size : ℕ) (mode : Mode) → size + depth + 1 ≡ length e.written.ctype.levels → LevelRules e.written.ctype.base size mode → (HasPrivateTop (place_of e.role) → depth ≡ 0 → mode ≡ Private) → IsModeAllowed e depth mode
@@ -155,13 +145,8 @@ allowed_modes e h mode is = none_some mode (sym (modes_all e e.written.ctype.lev
 -- ---- `private` in a field
 
 field_is : (what : Role) → is_field_role what ≡ true → what ≡ Role.Field
-field_is Role.Global h = absurd (false≢true h)
 field_is Role.Field h = refl
-field_is Role.Local h = absurd (false≢true h)
-field_is Role.Parameter h = absurd (false≢true h)
-field_is Role.Result h = absurd (false≢true h)
-field_is Role.Cast h = absurd (false≢true h)
-field_is Role.Made h = absurd (false≢true h)
+field_is _ h = absurd (false≢true h)
 
 pub level_is : (o : Option Mode) → is_private_level o ≡ true → o ≡ Some Private
 level_is None h = absurd (false≢true h)

@@ -15,8 +15,7 @@ some_in (x ∷ xs) = Unit {0}
 
 turned : (r : Ordering) → is_gt (ordering_reverse r) ≡ is_lt r
 turned Less = refl
-turned Equal = refl
-turned Greater = refl
+turned _ = refl
 
 module _ {X : Type 0} (C : X → X → Ordering) (o : IsTotalOrder C) where
   abbrev less : X → X → Bool

@@ -22,12 +22,8 @@ flat_from f (z ∷ rest) y has = ⊎_elim (λ here. (z, head_there z rest, here)
 -- ---- names of functions and globals
 
 pub names_is : (n : ℕ) (what : Named) → names_function n what ≡ true → what ≡ Named.Function n
-names_is n (Named.Struct k) h = absurd (false≢true h)
-names_is n (Named.Global k) h = absurd (false≢true h)
 names_is n (Named.Function k) h = ap Named.Function (sym (eqb-true n k h))
-names_is n (Named.Variable k) h = absurd (false≢true h)
-names_is n (Named.Field k) h = absurd (false≢true h)
-names_is n Named.Known h = absurd (false≢true h)
+names_is n _ h = absurd (false≢true h)
 
 pub is_names : (n : ℕ) (what : Named) → what ≡ Named.Function n → names_function n what ≡ true
 is_names n what is = ap (names_function n) is ∙ same_number n
@@ -37,12 +33,8 @@ names_global n (Named.Global k) = n == k
 names_global n _ = false
 
 pub global_is : (n : ℕ) (what : Named) → names_global n what ≡ true → what ≡ Named.Global n
-global_is n (Named.Struct k) h = absurd (false≢true h)
 global_is n (Named.Global k) h = ap Named.Global (sym (eqb-true n k h))
-global_is n (Named.Function k) h = absurd (false≢true h)
-global_is n (Named.Variable k) h = absurd (false≢true h)
-global_is n (Named.Field k) h = absurd (false≢true h)
-global_is n Named.Known h = absurd (false≢true h)
+global_is n _ h = absurd (false≢true h)
 
 pub is_global : (n : ℕ) (what : Named) → what ≡ Named.Global n → names_global n what ≡ true
 is_global n what is = ap (names_global n) is ∙ same_number n
@@ -67,9 +59,5 @@ pub private_target : (modes below : List Sharing) → modes ≡ private ∷ belo
 private_target modes below is = ap has_private_target is
 
 pub target_private : (modes : List Sharing) → has_private_target modes ≡ true → (below : List Sharing) × (modes ≡ private ∷ below)
-target_private [] h = absurd (false≢true h)
 target_private (private ∷ below) h = (below, refl)
-target_private (readonly ∷ below) h = absurd (false≢true h)
-target_private (locked l ∷ below) h = absurd (false≢true h)
-target_private (racy ∷ below) h = absurd (false≢true h)
-target_private (dynamic ∷ below) h = absurd (false≢true h)
+target_private _ h = absurd (false≢true h)

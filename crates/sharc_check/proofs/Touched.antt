@@ -109,12 +109,8 @@ module _ (r : Resolution) where
     leads_on : leads many first m ≡ true
 
   start_is : (what : Named) (m : ℕ) → starts what m ≡ true → IsStart what m
-  start_is (Named.Struct k) m h = absurd (false≢true h)
-  start_is (Named.Global k) m h = absurd (false≢true h)
   start_is (Named.Function k) m h = record { first = k; is = refl; leads_on = h }
-  start_is (Named.Variable k) m h = absurd (false≢true h)
-  start_is (Named.Field k) m h = absurd (false≢true h)
-  start_is Named.Known m h = absurd (false≢true h)
+  start_is _ m h = absurd (false≢true h)
 
   abbrev pub reached : ℕ → Bool
   reached m = list_any (λ token. starts (named_at r token) m) (all_spawned (functions_in r.program.items))

@@ -15,19 +15,11 @@ some_same {X} {x} e = ap (λ o. unwrap_or o x) e
 
 abbrev is_global : ℕ → Named → Bool
 is_global g (Named.Global n) = n == g
-is_global g (Named.Struct n) = false
-is_global g (Named.Function n) = false
-is_global g (Named.Variable x) = false
-is_global g (Named.Field f) = false
-is_global g Named.Known = false
+is_global g _ = false
 
 global_told : (g : ℕ) (what : Named) → is_global g what ≡ true → what ≡ Named.Global g
 global_told g (Named.Global n) h = ap Named.Global (same_number n g h)
-global_told g (Named.Struct n) h = false_true h
-global_told g (Named.Function n) h = false_true h
-global_told g (Named.Variable x) h = false_true h
-global_told g (Named.Field f) h = false_true h
-global_told g Named.Known h = false_true h
+global_told g _ h = false_true h
 
 global_tells : (g : ℕ) (what : Named) → what ≡ Named.Global g → is_global g what ≡ true
 global_tells g what is = ap (is_global g) is ∙ equal_number g

@@ -1,4 +1,5 @@
 mod Imports
+pub mod Aims
 pub mod ByTurns
 pub mod Failing
 pub mod Idling
@@ -12,5 +13,6 @@ pub mod Places
 pub mod Ranging
 pub mod Settled
 pub mod Standing
+pub mod Tells
 pub mod Touching
 pub mod Trying

@@ -1,5 +1,5 @@
 -- No turn but that of Lock, Join and CondWait is a failed try.
-use Rattle.sharc_code.proofs.{Imports.{◌≡◌, ℕ, Bool, true, false, None, refl, sym, ap, ◌∙◌, Code, Cell, Instr, Lock, Join, CondWait, Shape, TurnState, Runs, Tries, Stopped, Ended, Machine, act, TurnOutcome, Fails, state_after, is_trying, MayComeOut, after, asks_for}, Outcomes.comes_out}
+use Rattle.sharc_code.proofs.{Imports.{◌≡◌, ℕ, Bool, true, false, None, refl, sym, ap, ◌∙◌, Code, Cell, Instr, Shape, TurnState, Runs, Tries, Stopped, Ended, Machine, act, TurnOutcome, Fails, state_after, is_trying, MayComeOut, after, asks_for}, Outcomes.comes_out}
 
 abbrev pub is_try : TurnState → Bool
 is_try Runs = false
@@ -18,12 +18,12 @@ module _ (code : Code) (s : Shape) (m : Machine) where
   -- ---- the kinds of instructions
   pub data Sorted (i : Instr) : Type 0 where
     Other : asks_for s i m ≡ None → ((found : ℕ) → is_try (after (act code s i m) found).at.state ≡ false) → Sorted i
-    Locks : (cell : Cell) (site : ℕ) → i ≡ Lock cell site → Sorted i
-    Joins : (r site : ℕ) → i ≡ Join r site → Sorted i
-    Conds : (cell : Cell) (site : ℕ) → i ≡ CondWait cell site → Sorted i
+    Locks : (cell : Cell) (site : ℕ) → i ≡ Instr.Lock cell site → Sorted i
+    Joins : (r site : ℕ) → i ≡ Instr.Join r site → Sorted i
+    Conds : (cell : Cell) (site : ℕ) → i ≡ Instr.CondWait cell site → Sorted i
 
   pub sorted : (i : Instr) → Sorted i
-  sorted (Lock cell site) = Locks cell site refl
-  sorted (Join r site) = Joins r site refl
-  sorted (CondWait cell site) = Conds cell site refl
+  sorted (Instr.Lock cell site) = Locks cell site refl
+  sorted (Instr.Join r site) = Joins r site refl
+  sorted (Instr.CondWait cell site) = Conds cell site refl
   sorted i = Other refl (moves i refl)

@@ -1,5 +1,5 @@
 -- A turn does not look at whether the turn before was a failed try.
-use Rattle.sharc_code.proofs.Imports.{◌≡◌, ℕ, refl, Code, Instr, Lock, Spawn, Start, GlobalAt, Object, ObjectAt, Shape, Parameter, Stage, Rests, Enters, argument_word, Machine, Asks, step_of, act, instr_at, called, with_parameter, function_of, start, turn, settled, Register, WordOp}
+use Rattle.sharc_code.proofs.Imports.{◌≡◌, ℕ, refl, Code, Instr, GlobalAt, Object, ObjectAt, Shape, Parameter, Stage, Rests, Enters, argument_word, Machine, Asks, step_of, act, instr_at, called, with_parameter, function_of, start, turn, settled, Register, WordOp}
 use Rattle.sharc_code.specs.declared.instr.Cell.TheVariants.{Global}
 
 same_entered : (code : Code) (m : Machine) (function site argument : ℕ) (parameter : Parameter)
@@ -15,13 +15,13 @@ same_start code m site (Enters function) =
 same_start code m site stage = refl
 
 same_act : (code : Code) (s : Shape) (i : Instr) (m : Machine) → act code s i (settled m) ≡ act code s i m
-same_act code s (Lock (Global global at) site) m = refl
-same_act code s (Lock (GlobalAt global r) site) m = refl
-same_act code s (Lock (Object r at) site) m = refl
-same_act code s (Lock (ObjectAt r at) site) m = refl
-same_act code s (Spawn r function (Register.Int from) site) m = refl
-same_act code s (Spawn r function (Register.Reference from) site) m = refl
-same_act code s (Start site) m = same_start code m site m.own.stage
+same_act code s (Instr.Lock (Global global at) site) m = refl
+same_act code s (Instr.Lock (GlobalAt global r) site) m = refl
+same_act code s (Instr.Lock (Object r at) site) m = refl
+same_act code s (Instr.Lock (ObjectAt r at) site) m = refl
+same_act code s (Instr.Spawn r function (Register.Int from) site) m = refl
+same_act code s (Instr.Spawn r function (Register.Reference from) site) m = refl
+same_act code s (Instr.Start site) m = same_start code m site m.own.stage
 same_act code s _ m = refl
 
 pub same_turn : (code : Code) (s : Shape) (m : Machine) → turn code s (settled m) ≡ turn code s m

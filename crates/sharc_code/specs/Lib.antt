@@ -1,3 +1,4 @@
+pub mod Aims
 pub mod Arithmetic
 pub mod Laws
 pub mod Layout

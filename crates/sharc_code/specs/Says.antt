@@ -1,6 +1,6 @@
 -- Which event of the source a turn is.
-use Rattle.std.specs.Prelude.{ℕ, ℤ, pos, negsuc, zero, suc, ◌+◌, ◌-◌, ◌*◌, ◌%◌, ◌^◌, ◌==◌, ◌||◌, Option, Some, None}
-use Rattle.std.specs.Prelude.{List, [], ◌∷◌, slice_index_or, if◌then◌else◌}
+use Rattle.std.specs.Prelude.{ℕ, ℤ, pos, negsuc, zero, suc, ◌+◌, ◌-◌, ◌*◌, ◌%◌, ◌^◌, ◌==◌, ◌||◌, ◌≡◌}
+use Rattle.std.specs.Prelude.{Bool, true, false, Option, Some, None, List, [], ◌∷◌, slice_index_or, if◌then◌else◌}
 use Rattle.sharc_tree.specs.{declared.token.Site.Site, declared.event.CellAt.CellAt, declared.event.CellMode.CellMode}
 use Rattle.sharc_tree.specs.{declared.event.TakeKind.TakeKind, declared.event.Act.Act}
 use Rattle.sharc_tree.specs.declared.event.SourceEvent.{SourceEvent}
@@ -26,6 +26,7 @@ use Rattle.sharc_code.specs.declared.state.Stage.{Stage}
 use Rattle.sharc_code.specs.declared.state.Stage.TheVariants.{Makes, Uncounts, Begins, Enters, Withdraws, WithdrawsFrom}
 use Rattle.sharc_code.specs.declared.state.Stage.TheVariants.{Leaves, Wakes}
 use Rattle.sharc_code.specs.{Arithmetic.{word_of, int_of}, Machine.{Machine, int, ref, function_of, instr_at}}
+use Rattle.sharc_code.specs.Outcomes.{is_exit, is_locking, is_print}
 use Rattle.sharc_code.specs.declared.code.Parameter.TheVariants as parameters
 use Rattle.sharc_code.specs.declared.code.Use.TheVariants as uses
 use Rattle.sharc_code.specs.declared.instr.Register.TheVariants as registers
@@ -245,3 +246,55 @@ elements_after e _ number earlier = earlier
 abbrev pub elements_in : List SourceEvent → ℕ → ℕ
 elements_in [] number = 0
 elements_in (e ∷ earlier) number = elements_after e e.act number (elements_in earlier number)
+
+-- ---- which instructions tell which acts
+abbrev pub is_access : Instr → Bool
+is_access (Load r cell site) = true
+is_access (Store r cell site) = true
+is_access (LoadRef cell site) = true
+is_access (Exchange r cell site) = true
+is_access (TakeCell r cell site) = true
+is_access _ = false
+
+-- it may tell of a thread that is spawned or gone
+abbrev pub is_threading : Instr → Bool
+is_threading (Spawn r function from site) = true
+is_threading Exit = true
+is_threading _ = false
+
+abbrev pub is_condition : Instr → Bool
+is_condition (CondEnter cell site) = true
+is_condition (CondWait cell site) = true
+is_condition (CondSignal cell site) = true
+is_condition (CondBroadcast cell site) = true
+is_condition _ = false
+
+abbrev pub is_enter : Instr → Bool
+is_enter (CondEnter cell site) = true
+is_enter _ = false
+
+-- one that may tell an act like this
+abbrev pub tells : Act → Instr → Bool
+tells (acts.Read cell mode) i = is_access i
+tells (acts.Write cell mode v) i = is_access i
+tells (acts.Take (takens.Cell cell mode) kind) i = is_access i
+tells (acts.Take (takens.Local variable) kind) i = true
+tells (acts.Lock cell) i = is_locking i
+tells (acts.Unlock cell) i = is_locking i
+tells (acts.Spawn function v) i = is_threading i
+tells (acts.Print v) i = is_print i
+tells acts.Gone i = is_exit i
+tells (acts.Enter cell) i = is_enter i
+tells (acts.Woken cell) i = is_condition i
+tells (acts.Signal cell) i = is_condition i
+tells (acts.Broadcast cell) i = is_condition i
+tells _ i = true
+
+-- an event of the thread itself, of an act that the instruction may tell
+abbrev pub IsSaidBy : Instr → Machine → Option SourceEvent → Type 0
+IsSaidBy i m None = Unit {0}
+IsSaidBy i m (Some e) = (e.thread ≡ m.own.number) × (tells e.act i ≡ true)
+
+abbrev pub TurnsTell : Type 0
+TurnsTell = (code : Code) (i : Instr) (m : Machine) (found elements : ℕ)
+    → IsSaidBy i m (said code i m found elements)

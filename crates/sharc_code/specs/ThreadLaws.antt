@@ -5,7 +5,7 @@ use Rattle.sharc_code.specs.{declared.code.Code.Code, declared.shape.Shape.Shape
 use Rattle.sharc_code.specs.{declared.state.TurnState.TurnState, declared.state.TurnState.TheVariants.{Runs, Tries, Stopped, Ended}}
 use Rattle.sharc_code.specs.{Machine.{Machine, Own, Turn, Local, Asks, fails}, Path.{turn, after, asked_by, may_go}}
 use Rattle.sharc_code.specs.{Runs.{result_of, step_of, words_now, Answered}, Stages.IsStageOf, Waits.waits_now}
-use Rattle.sharc_code.specs.Outcomes.{TurnsComeOut}
+use Rattle.sharc_code.specs.{Aims.TurnsAim, Outcomes.TurnsComeOut, Says.TurnsTell}
 
 -- what the word of its step holds, where the turn asks for one
 abbrev pub found_now : List ℕ → Turn → ℕ
@@ -73,3 +73,5 @@ pub record ThreadLaws : Type 0 where
   pub forgets : TurnsForgetTries
   pub keeps : TurnsKeep
   pub outcomes : TurnsComeOut
+  pub aims : TurnsAim
+  pub tells : TurnsTell

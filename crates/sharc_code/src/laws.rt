@@ -25,10 +25,11 @@ pub fn fits_law(code: &Code, shape: &Shape)
     ensures { IsShape shape.now }
 {}
 
-/// What holds of each turn of a thread: it has one of eleven outcomes, each of certain instructions; its number stays,
-/// and so do the rows of its table, its prints and that its stage is one of the shape; it waits exactly where its next
-/// turn would be a failed try; a failed try changes nothing else and leaves the words as they are; and a turn does not
-/// look at whether the one before was a failed try.
+/// What holds of each turn of a thread: it has one of eleven outcomes, each of certain instructions; the word that it
+/// asks for is of one of ten kinds, each of certain instructions; what it tells is an event of the thread itself, of an
+/// act that its instruction may tell; its number stays, and so do the rows of its table, its prints and that its stage
+/// is one of the shape; it waits exactly where its next turn would be a failed try; a failed try changes nothing else
+/// and leaves the words as they are; and a turn does not look at whether the one before was a failed try.
 #[inline(always)]
 pub fn thread_laws()
     ensures { ThreadLaws }

@@ -1,5 +1,5 @@
 -- The statements of one turn that ask for an event.
-use Rattle.sharc_compile.proofs.{Imports.{is_some, length, eqb-true, ◌≡◌, ℕ, ℤ, zero, suc, pos, negsuc, ◌+◌, ◌<◌, ◌≤◌, inr, Bool, true, false, ◌||◌, List, [], ◌∷◌, ◌++◌, refl, sym, ap, ◌∙◌, subst, arith, ◌==◌, nat_lt, Option, Some, None, ne_eqb, lt-ltb, if◌then◌else◌, Act, CellAt, CellMode, SourceEvent, Site, Taken, HeldMutex, object_of, without, waits_in, THREADS, WordOp, Code, GlobalCells, PlaceMode, Cell, Global, GlobalAt, InObject, ObjectAt, Instr, Join, Shape, Runs, Rests, Trapped as Trap, int_of, first_cell, state_word, Machine, int, ref, set_int, set_ref, move_ref, goes, fails, trapped, accessed, place, object, word, raise, lower, test, reference_of, taken, locked, unlocked, joined, join, woken, Local, AsksStep, step_of, after, asked_by, is_failed_try, reference, cell_at, mode_of, place_at, kind_of, variable_of, access, event_at, take_local, BaseWithin, Program, Thread, Turn, Goes, Asks, Running, event_of, source_at, statement_at, turn, NULL, is_null, program_over, Elements, IsNumber, IsFree, IsHeld, elements_told, Same, AreHeld, IsReference, Refuses, by}, Registers.no_reference, Logs.{Apart, without_is, object_held, log_pushed}, Sames.{all_ints, all_refs, int_is, ref_is, null_at, set_int_same, set_ref_same, null_same, pending_same, base_is, cell_is, mode_is, is_cell, word_is}, Turns.{Turned, asks_on, plain, halts, tries_again}}
+use Rattle.sharc_compile.proofs.{Imports.{is_some, length, eqb-true, ◌≡◌, ℕ, ℤ, zero, suc, pos, negsuc, ◌+◌, ◌<◌, ◌≤◌, inr, Bool, true, false, ◌||◌, List, [], ◌∷◌, ◌++◌, refl, sym, ap, ◌∙◌, subst, arith, ◌==◌, nat_lt, Option, None, ne_eqb, lt-ltb, if◌then◌else◌, Act, CellAt, CellMode, SourceEvent, Taken, HeldMutex, object_of, without, waits_in, THREADS, WordOp, Code, GlobalCells, PlaceMode, Cell, Global, GlobalAt, InObject, ObjectAt, Instr, Join, Shape, Runs, Rests, Trapped as Trap, int_of, first_cell, state_word, Machine, int, ref, set_int, set_ref, move_ref, goes, fails, trapped, accessed, place, object, word, raise, test, reference_of, taken, locked, unlocked, joined, join, woken, Local, AsksStep, step_of, after, asked_by, is_failed_try, reference, cell_at, mode_of, place_at, kind_of, variable_of, access, event_at, take_local, BaseWithin, Program, Thread, Turn, Running, event_of, source_at, statement_at, turn, NULL, is_null, program_over, Elements, IsNumber, IsFree, IsHeld, elements_told, Same, AreHeld, IsReference, Refuses}, Registers.no_reference, Logs.{Apart, without_is, object_held, log_pushed}, Sames.{all_ints, all_refs, int_is, ref_is, null_at, set_int_same, set_ref_same, null_same, pending_same, base_is, cell_is, mode_is, is_cell, word_is}, Turns.{Turned, event_is, asks_on, plain, halts, tries_again}}
 use Rattle.sharc_tree.specs.declared.trap.Trap.TheVariants as traps
 use Rattle.sharc_guard.specs.Machine as Form
 
@@ -7,10 +7,6 @@ use Rattle.sharc_guard.specs.Machine as Form
 pub raised : (s : Shape) (n : ℕ) (x : Machine) (found : ℕ) → after (raise s n x) found ≡ x
 raised s zero x found = refl
 raised s (suc n) x found = refl
-
-pub lowers : (s : Shape) (n : ℕ) (x : Machine) (found : ℕ) → after (lower s n x) found ≡ x
-lowers s zero x found = refl
-lowers s (suc n) x found = refl
 
 tests : (s : Shape) (n : ℕ) (x : Machine) (found : ℕ) → after (test s n x) found ≡ x
 tests s zero x found = refl
@@ -24,12 +20,6 @@ module _ (code : Code) (s : Shape) (statements : List Instr) (T : Elements) (m :
 
   abbrev Done : Turn → Machine → Option SourceEvent → Type 0
   Done t m' e = Turned code s statements T m a cost t 1 m' e
-
-  event_is : (site : Site) (act act' : Act) (answer answer' : ℤ) → act ≡ act' → answer ≡ answer'
-      → Some record { thread = m.own.number; site = site; answer = answer; act = act } ≡ Some (by m.own.number (event_of site act' answer'))
-  event_is site act act' answer answer' e f =
-      let F : Act → ℤ → Option SourceEvent = λ act answer. Some record { thread = m.own.number; site = site; answer = answer; act = act } in
-      ap (λ act. F act answer) e ∙ ap (F act') f
 
   act_is : (cell : Cell) (mode : PlaceMode) (of of' : CellAt → CellMode → Act) → ((c : CellAt) (md : CellMode) → of c md ≡ of' c md)
       → of (cell_at code m cell) (mode_of code m (cell_at code m cell) mode) ≡ of' (Form.cell_at p a cell) (Form.mode_of p a (Form.cell_at p a cell) mode)
@@ -46,7 +36,7 @@ module _ (code : Code) (s : Shape) (statements : List Instr) (T : Elements) (m :
       → Turned code s statements T m a cost (Form.asks_at p a site act' answering go) w m' (event_at code m site answer act)
   asks w some site act act' e answering answer x f go m' events k pc1 pc2 phase runs rests =
       asks_on code s statements T m a cost one rest w some m' (source_at p site).site act' (λ x. go x (Form.told a (source_at p site).site act' (answering x))) x (answering x) (event_at code m site answer act)
-      (event_is (source_at p site).site act act' answer (answering x) e f) events k (pc1 ∙ ap (λ n. n + 1) pc ∙ sym pc2) (phase ∙ running) runs (rests ∙ rest)
+      (event_is m.own.number (source_at p site).site act act' answer (answering x) e f) events k (pc1 ∙ ap (λ n. n + 1) pc ∙ sym pc2) (phase ∙ running) runs (rests ∙ rest)
 
   -- an access
   accesses : (site : ℕ) (cell : Cell) (of of' : CellAt → CellMode → Act) → ((c : CellAt) (md : CellMode) → of c md ≡ of' c md) → (answering : ℤ → ℤ) (answer x : ℤ) → answer ≡ answering x → (go : ℤ → Thread → Thread) (m' : Machine)

@@ -1,15 +1,9 @@
 -- A path of code comes to where a path of guarded code is.
-use Rattle.sharc_compile.proofs.{Imports.{◌≡◌, ℕ, ℤ, zero, suc, pos, ◌+◌, ◌*◌, ◌<◌, ◌≤◌, ◌⊎◌, inl, inr, Bool, true, false, ◌||◌, List, [], ◌∷◌, ◌++◌, length, map, replicate, refl, sym, ap, ◌∙◌, subst, ⊎_elim, arith, Option, Some, None, slice_index, get_or as slice_index_or, slice_set, lt-ltb, cases_eq, cases_lt, append-nil, map-append, length-replicate, length-set, get_or-set_same, get_or-set_other, get_or-replicate, get_or_past, if◌then◌else◌, option_map, option_to_list, SourceEvent, Code, Layout, Parameter, Instr, Start, Exit, Lower, Shape, Frame, TurnState, Runs, Tries, Stopped, Ended, Rests, Enters, FRAMES, int_of, Machine, ref, set_ref, goes, act, at_stage, instr_at, free, freed, layout_at, entered, called, with_parameter, function_of, no_frame, begun, after, machine_after, may_go, IsPath, asked_by, most_ints, most_refs, is_left_out, is_failed_try, repeats, paced_in, said, speaks_of, reference, started_with, in_free, ThreadLaws, IsGuarded, HasParameter, Program, Thread, statement_at, started, fresh, thread_after, weight_in, weight, NULL, instr_of, generated, program_over, Elements, elements_told, said_now, said_in, Has, IsConsistentTurn, IsConsistent, MayFind, IsArgument, IsArgumentAt, Same, IsReference, IsAt, IsLinking, MatchesThread, IsAtStage, phase_of, phase_at, IsOver, spent_at, by, begins, stop_turn, IsBeginning, HasCome, lowered_by, unless_told, lowered_in, all_null}, Registers.no_reference, Lowering.{lowered_of, lowered_same, step_lowers, lowers_next, is_lower, lower_goes}, Sames.{number_at, all_ints, all_refs, set_int_same, set_ref_same, same_retabled}, Turns.{Turned, Moved, Stayed, left_at}, OneTurn.{phase_now, by_kind, at_exit}}
+use Rattle.sharc_compile.proofs.{Imports.{◌≡◌, ℕ, ℤ, pos, ◌+◌, ◌*◌, ◌<◌, ◌≤◌, ◌⊎◌, inl, inr, Bool, true, false, ◌||◌, List, [], ◌∷◌, ◌++◌, length, map, replicate, refl, sym, ap, ◌∙◌, subst, ⊎_elim, arith, Option, Some, None, slice_index, get_or as slice_index_or, slice_set, lt-ltb, cases_eq, cases_lt, append-nil, map-append, length-replicate, length-set, get_or-set_same, get_or-set_other, get_or-replicate, get_or_past, if◌then◌else◌, option_map, option_to_list, SourceEvent, Code, Layout, Parameter, Instr, Start, Exit, Lower, Shape, Frame, TurnState, Runs, Tries, Stopped, Ended, Rests, Enters, FRAMES, int_of, Machine, ref, set_ref, goes, act, at_stage, instr_at, free, freed, layout_at, entered, called, with_parameter, function_of, no_frame, begun, after, machine_after, may_go, IsPath, asked_by, most_ints, most_refs, is_left_out, is_failed_try, repeats, paced_in, said, speaks_of, reference, started_with, in_free, ThreadLaws, IsGuarded, HasParameter, Program, Thread, statement_at, started, fresh, thread_after, weight_in, weight, NULL, instr_of, generated, program_over, Elements, elements_told, said_now, said_in, Has, IsConsistentTurn, IsConsistent, MayFind, IsArgument, IsArgumentAt, Same, IsReference, IsAt, IsLinking, MatchesThread, IsAtStage, phase_of, phase_at, IsOver, spent_at, by, begins, stop_turn, IsBeginning, HasCome, lowered_by, unless_told, lowered_in, all_null}, Registers.no_reference, Lowering.{lowered_of, lowered_same, step_lowers, lowers_next, is_lower, lower_goes}, Sames.{number_at, all_ints, all_refs, set_int_same, set_ref_same, same_retabled}, Turns.{Turned, Moved, Stayed, left_at}, OneTurn.{phase_now, by_kind, at_exit}, Holding.mapped_at}
 use Rattle.sharc_code.specs.{declared.state.At.At, Layout.function_at, Path.turn}
 use Rattle.sharc_guard.specs.Machine as Form
 use Rattle.sharc_guard.specs.Path as Guarded
 use Rattle.sharc_compile.proofs.Inside as Inner
-
--- ---- the instruction of a statement
-mapped_at : (f : Instr → Instr) (xs : List Instr) (n : ℕ) → f Exit ≡ Exit → slice_index_or (map f xs) n Exit ≡ f (slice_index_or xs n Exit)
-mapped_at f [] n e = sym e
-mapped_at f (x ∷ xs) zero e = refl
-mapped_at f (x ∷ xs) (suc n) e = mapped_at f xs n e
 
 all_zero : (n i : ℕ) → slice_index_or (replicate n (pos 0)) i (pos 0) ≡ pos 0
 all_zero n i = ⊎_elim
@@ -376,9 +370,9 @@ module _ (code : Code) (s : Shape) (statements : List Instr) (is : code.instrs.i
           let at_pc : m2.at.pc ≡ (function_of code f).entry = ap (λ (at : At). at.pc) en.1 in
           let stands : MatchesThread code s p T m2 (begun_with T f found) = inl (record {
             same = en.0;
-            pc_is = started_pc (fresh p f) (argued T f found) q ∙ sym at_pc;
+            pc_is = (begun (fresh p f) (argued T f found) q).0 ∙ sym at_pc;
             stage = subst (IsAtStage m2 (statement_at p (begun_with T f found).pc)) (sym en.2) tt;
-            phase_is = started_phase (fresh p f) (argued T f found) q ∙ sym (ap (λ st. phase_of st m2.own.stage) run ∙ ap phase_at en.2);
+            phase_is = (begun (fresh p f) (argued T f found) q).1 ∙ sym (ap (λ st. phase_of st m2.own.stage) run ∙ ap phase_at en.2);
             over = subst (λ st. IsOver p (begun_with T f found) st m2.own.stop) (sym run) tt;
           }) in
           inr (inr (record {
@@ -390,31 +384,16 @@ module _ (code : Code) (s : Shape) (statements : List Instr) (is : code.instrs.i
             number = laws.number code s m found ∙ ap (λ (m : Machine). m.own.number) h.machine;
             stands = restood T later next_one (begun_with T f found) (λ n some has. turns.kept n some has ∙ ap (λ ev. elements_told ev T n) says_it) (subst (λ x. MatchesThread code s p T x (begun_with T f found)) (sym to) stands);
             told = ap (λ ev. events ++ option_to_list ev) says_it ∙ ap (λ xs. xs ++ by thread (begins p f (argued T f found)) ∷ []) h.told
-                ∙ ap (λ xs. by thread (begins p f (argued T f found)) ∷ map (by thread) xs) (sym (started_events (fresh p f) (argued T f found) q));
-            lowers = ap (λ ev. unless_told ev (low ++ lowered_by m (instr_at code m.at.pc))) says_it ∙ sym (started_lowered (fresh p f) (argued T f found) q);
+                ∙ ap (λ xs. by thread (begins p f (argued T f found)) ∷ map (by thread) xs) (sym ((begun (fresh p f) (argued T f found) q).3));
+            lowers = ap (λ ev. unless_told ev (low ++ lowered_by m (instr_at code m.at.pc))) says_it ∙ sym ((begun (fresh p f) (argued T f found) q).2);
             pace = subst (λ (x : Machine). paced + cost m found + left_at x.own.stage ≤ 2 + 0 + spent_at x.own.stage + stop_turn x.at.state) (sym to)
                 (let q1 = h.pace in let q2 = cost_one (is_left_out code s m found) in let q3 = ap left_at en.2 in omega arith);
           }))
         where
-          started_pc : (a : Thread) (v : ℤ) (q : Parameter) → (Guarded.with_parameter a q v).pc ≡ a.pc
-          started_pc a v Parameter.None = refl
-          started_pc a v Parameter.Int = refl
-          started_pc a v Parameter.Reference = refl
-
-          started_phase : (a : Thread) (v : ℤ) (q : Parameter) → (Guarded.with_parameter a q v).phase ≡ a.phase
-          started_phase a v Parameter.None = refl
-          started_phase a v Parameter.Int = refl
-          started_phase a v Parameter.Reference = refl
-
-          started_lowered : (a : Thread) (v : ℤ) (q : Parameter) → (Guarded.with_parameter a q v).lowered ≡ a.lowered
-          started_lowered a v Parameter.None = refl
-          started_lowered a v Parameter.Int = refl
-          started_lowered a v Parameter.Reference = refl
-
-          started_events : (a : Thread) (v : ℤ) (q : Parameter) → (Guarded.with_parameter a q v).events ≡ a.events
-          started_events a v Parameter.None = refl
-          started_events a v Parameter.Int = refl
-          started_events a v Parameter.Reference = refl
+          -- what a parameter leaves as it was
+          begun : (a : Thread) (v : ℤ) (q : Parameter) → let b = Guarded.with_parameter a q v in (b.pc ≡ a.pc) × (b.phase ≡ a.phase) × (b.lowered ≡ a.lowered) × (b.events ≡ a.events)
+          begun a v Parameter.None = (refl, refl, refl, refl)
+          begun a v _ = (refl, refl, refl, refl)
 
       from_any : Where T m events low paced → Next
       from_any (inl h) = from_first h

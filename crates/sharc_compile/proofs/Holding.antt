@@ -64,7 +64,7 @@ released_more (Replaced c ∷ gs) extra n h = released_more gs extra n h
 released_more (Emptied g ∷ gs) extra n h = released_more gs extra n h
 
 -- ---- instructions
-mapped_at : (f : Instr → Instr) (xs : List Instr) (n : ℕ) → f Exit ≡ Exit → slice_index_or (map f xs) n Exit ≡ f (slice_index_or xs n Exit)
+pub mapped_at : (f : Instr → Instr) (xs : List Instr) (n : ℕ) → f Exit ≡ Exit → slice_index_or (map f xs) n Exit ≡ f (slice_index_or xs n Exit)
 mapped_at f [] n e = sym e
 mapped_at f (x ∷ xs) zero e = refl
 mapped_at f (x ∷ xs) (suc n) e = mapped_at f xs n e

@@ -1,5 +1,5 @@
 -- What the proofs cite of std, of other crates and of this crate's definitions, passed on from one place.
-pub use Rattle.std.proofs.{Common.{All, Bool, Err, IfOk, List, None, Ok, Option, Result, Some, [], ap, append_assoc, arith, cond, eqb-true, false, fold, inl, inr, is_some, length, map, max, min, nat_lt, negsuc, not, pos, refl, replicate, reverse, slice_get, slice_index, slice_index_or as get_or, slice_set, subst, suc, sym, take, true, zero, ℕ, ℤ, ⊎_elim, ◌&&◌, ◌*◌, ◌++◌, ◌+◌, ◌-◌, ◌<◌, ◌==◌, ◌^◌, ◌||◌, ◌∙◌, ◌∷◌, ◌≡◌, ◌≢◌, ◌≤◌, ◌⊎◌}, lemmas.Bool.{and_parts, cases_eq, cases_lt, eq-eqb, le-leb, lt-leb, lt-ltb, ltb-true, ne_eqb}, lemmas.Bool.Decides.nat_tests, lemmas.Int.to_z_pos, lemmas.List.{append-nil, get_or-replicate, get_or-set_other, get_or-set_same, get_or_past, length-append, length-map, length-replicate, length-set, map-append, reverse-append, reverse-reverse}}
+pub use Rattle.std.proofs.{Common.{All, Bool, Err, IfOk, List, None, Ok, Option, Result, Some, [], ap, append_assoc, arith, cond, eqb-true, false, fold, inl, inr, is_some, length, map, max, min, nat_lt, negsuc, not, pos, refl, replicate, reverse, slice_get, slice_index, slice_index_or as get_or, slice_set, subst, suc, sym, take, true, zero, ℕ, ℤ, ⊎_elim, ◌&&◌, ◌*◌, ◌++◌, ◌+◌, ◌-◌, ◌<◌, ◌==◌, ◌^◌, ◌||◌, ◌∙◌, ◌∷◌, ◌≡◌, ◌≢◌, ◌≤◌, ◌⊎◌}, lemmas.Bool.{and_parts, cases_eq, cases_lt, eq-eqb, le-leb, lt-leb, lt-ltb, ltb-true, ne_eqb}, lemmas.Bool.Decides.nat_tests, lemmas.Int.to_z_pos, lemmas.List.{append-nil, get_or-replicate, get_or-set_other, get_or-set_same, get_or_past, length-append, length-map, length-replicate, length-set, map-append, reverse-append, reverse-reverse}, lemmas.Option.{get_or_from_slice_get, slice_get-get_or}}
 pub use Rattle.std.specs.{Int.w64, Option.{option_map, option_to_list}, Prelude.{IsSomeAnd, if◌then◌else◌, int_le, nat_eq, nat_le}}
 pub use Rattle.sharc_lemmas.proofs.{Bools.{same_test as same_bool}, Lists.all_null, Numbers.{eq_refl, ne_eq, times_low as times_le, times_more}}
 pub use Rattle.sharc_tree.specs.{declared.event.Act.Act, declared.event.CellAt.CellAt, declared.event.CellMode.CellMode, declared.event.Object.Object, declared.event.SourceEvent.SourceEvent, declared.event.Taken.Taken, declared.token.Site.Site, declared.trap.Trap.Trap}

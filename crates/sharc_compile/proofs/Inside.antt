@@ -1,5 +1,5 @@
 -- A thread of well-formed guarded code stays within its functions, and its registers within the banks.
-use Rattle.sharc_compile.proofs.Imports.{◌≡◌, ℕ, ℤ, zero, suc, pos, negsuc, ◌+◌, ◌*◌, ◌<◌, ◌≤◌, ◌⊎◌, inl, inr, max, Bool, true, false, List, [], ◌∷◌, ◌++◌, length, fold, refl, sym, ap, ◌∙◌, subst, ⊎_elim, arith, Some, Result, Ok, Err, nat_lt, slice_get, get_or as slice_index_or, ltb-true, if◌then◌else◌, SourceEvent, CellAt, Trap, Act, Function, Parameter, Cell, Global, GlobalAt, InObject, ObjectAt, Register, Instr, Constant, Move, MoveReference, Null, ComputeInt, ComputeLong, NegateInt, NegateLong, Complement, Not, SameReference, ChkWidth, Jump, JumpIfZero, JumpIfNull, Call, Return, ChkNull, ChkHeld, ChkNotHeld, ChkPositive, ChkRoom, ChkLock, ChkLockLoaded, Bounds, GlobalBounds, ChkRead, ChkWrite, Load, Store, LoadRef, Exchange, Raise, RaiseLoaded, Lower, New, TakeCell, TakeLocal, TestSole, Clear, Give, Free, Lock, Unlock, Spawn, Join, Print, Start, Exit, CondEnter, CondWait, CondSignal, CondBroadcast, Frame, is_zero, no_function, most_ints, most_refs, is_null, IsBody, IsAtPlace, IsGuarded, Program, Thread, turn, Phase, Running, Leaving, Left, Turn, Goes, Halts, function_at, statement_at, step, handed, without_base, to, source_at, event_of, argument, started, fresh, times_more, times_le}
+use Rattle.sharc_compile.proofs.Imports.{slice_get-get_or, get_or_from_slice_get, ◌≡◌, ℕ, ℤ, zero, suc, pos, negsuc, ◌+◌, ◌*◌, ◌<◌, ◌≤◌, ◌⊎◌, inl, inr, max, Bool, true, false, List, [], ◌∷◌, ◌++◌, length, fold, refl, sym, ap, ◌∙◌, subst, ⊎_elim, arith, Result, Ok, Err, nat_lt, slice_get, get_or as slice_index_or, ltb-true, if◌then◌else◌, SourceEvent, CellAt, Trap, Act, Function, Parameter, Cell, Global, Register, Instr, ComputeInt, ComputeLong, NegateInt, NegateLong, ChkWidth, Jump, JumpIfZero, JumpIfNull, Call, Return, ChkNull, ChkHeld, ChkNotHeld, ChkPositive, ChkRoom, ChkLock, ChkLockLoaded, Bounds, GlobalBounds, TakeLocal, Lock, Spawn, Start, Exit, Frame, is_zero, no_function, most_ints, most_refs, is_null, IsBody, IsAtPlace, IsGuarded, Program, Thread, turn, Phase, Running, Leaving, Left, Turn, Goes, Halts, function_at, statement_at, step, handed, without_base, to, source_at, event_of, argument, started, fresh, times_more, times_le}
 use Rattle.sharc_guard.specs.{Machine.{int, ref, asserts, with_result, indexed, called, returned, lock_checked, exit, Stopped, back_to, next, set_int, cell_at}, Path.{after, with_parameter}}
 
 -- ---- the largest function
@@ -11,16 +11,6 @@ fold_each : (g : Function → ℕ) (s : ℕ) (xs : List Function) (n : ℕ) → 
 fold_each g s [] n z = omega arith
 fold_each g s (x ∷ xs) zero z = let h = fold_least g (max s (g x)) xs in omega arith
 fold_each g s (x ∷ xs) (suc n) z = fold_each g (max s (g x)) xs n z
-
-get_some : {X : Type 0} (xs : List X) (n : ℕ) (d : X) → n < length xs → slice_get xs n ≡ Some (slice_index_or xs n d)
-get_some [] n d lt = absurd (omega arith)
-get_some (x ∷ xs) zero d lt = refl
-get_some (x ∷ xs) (suc n) d lt = get_some xs n d (omega arith)
-
-get_within : {X : Type 0} (xs : List X) (n : ℕ) (d x : X) → slice_get xs n ≡ Some x → slice_index_or xs n d ≡ x
-get_within [] n d x e = absurd (cc)
-get_within (y ∷ xs) zero d x e = cc
-get_within (y ∷ xs) (suc n) d x e = get_within xs n d x e
 
 module _ (p : Program) (good : IsGuarded p) where
   abbrev pub most : ℕ
@@ -81,13 +71,13 @@ module _ (p : Program) (good : IsGuarded p) where
 
   -- what is known of a place
   pub at_place : (a : Thread) → Within a → IsAtPlace p good.owner a.pc (statement_at p a.pc)
-  at_place a h = good.each a.pc (statement_at p a.pc) h.body.behind (get_some p.statements a.pc Exit h.body.inside)
+  at_place a h = good.each a.pc (statement_at p a.pc) h.body.behind (slice_get-get_or p.statements a.pc Exit h.body.inside)
 
   pub at_exit : (a : Thread) → InExit a.pc a.frames → statement_at p a.pc ≡ Exit
-  at_exit a h = ap (statement_at p) h.pc_is ∙ get_within p.statements 1 Exit Exit good.exits
+  at_exit a h = ap (statement_at p) h.pc_is ∙ get_or_from_slice_get p.statements 1 Exit Exit good.exits
 
   pub at_start : statement_at p 0 ≡ Start good.start
-  at_start = get_within p.statements 0 Exit (Start good.start) good.starts
+  at_start = get_or_from_slice_get p.statements 0 (Start good.start) Exit good.starts
 
   module _ (a : Thread) (h : Within a) where
     goes_to : (pc : ℕ) → IsBody p good.owner (good.owner a.pc) pc → InBody pc a.ints_from a.refs_from a.frames
@@ -193,9 +183,7 @@ module _ (p : Program) (good : IsGuarded p) where
     locks_inside : (cell : Cell) (held : List CellAt) (events : List SourceEvent) → Next
         → Inside (next (record (without_base (record a { events = events; lowered = [] }) cell) { held = held }))
     locks_inside (Global g c) held events n = inl (goes_to (a.pc + 1) n)
-    locks_inside (GlobalAt g r) held events n = inl (goes_to (a.pc + 1) n)
-    locks_inside (InObject r c) held events n = inl (goes_to (a.pc + 1) n)
-    locks_inside (ObjectAt r at) held events n = inl (goes_to (a.pc + 1) n)
+    locks_inside _ held events n = inl (goes_to (a.pc + 1) n)
 
     spawns_inside : (from : Register) (r : ℕ) (x : ℤ) (events : List SourceEvent) → Next
         → Inside (next (set_int (handed (record a { events = events; lowered = [] }) from) r x))
@@ -204,17 +192,10 @@ module _ (p : Program) (good : IsGuarded p) where
 
     -- each statement of a body
     stays_inside : (i : Instr) → IsAtPlace p good.owner a.pc i → (x : ℤ) → Inside (after a (step p i a) x)
-    stays_inside (Constant r v) k x = goes_next k.leads
-    stays_inside (Move r from) k x = goes_next k.leads
-    stays_inside (MoveReference r from) k x = goes_next k.leads
-    stays_inside (Null r) k x = goes_next k.leads
     stays_inside (ComputeInt operator r y z site) k x = resulted r site _ x k.leads
     stays_inside (ComputeLong operator r y z site) k x = resulted r site _ x k.leads
     stays_inside (NegateInt r y site) k x = resulted r site _ x k.leads
     stays_inside (NegateLong r y site) k x = resulted r site _ x k.leads
-    stays_inside (Complement r y) k x = goes_next k.leads
-    stays_inside (Not r y) k x = goes_next k.leads
-    stays_inside (SameReference r y z) k x = goes_next k.leads
     stays_inside (ChkWidth width r site) k x = asserted _ Trap.OutOfRange site x k.leads
     stays_inside (Jump pc) k x = inl (goes_to pc k.leads)
     stays_inside (JumpIfZero r pc) k x = jumps (is_zero (int a r)) pc x k.leads.0 k.leads.1
@@ -230,33 +211,12 @@ module _ (p : Program) (good : IsGuarded p) where
     stays_inside (ChkLockLoaded site) k x = lock_inside _ _ site x k.leads
     stays_inside (Bounds r base cells field site) k x = index_inside r (int a r) cells field site _ x k.leads
     stays_inside (GlobalBounds r elements cells field site) k x = index_inside r (int a r) cells field site _ x k.leads
-    stays_inside (ChkRead cell site) k x = goes_next k.leads
-    stays_inside (ChkWrite cell site) k x = goes_next k.leads
-    stays_inside (Load r cell site) k x = goes_next k.leads
-    stays_inside (Store r cell site) k x = goes_next k.leads
-    stays_inside (LoadRef cell site) k x = goes_next k.leads
-    stays_inside (Exchange r cell site) k x = goes_next k.leads
-    stays_inside (Raise r from) k x = goes_next k.leads
-    stays_inside (RaiseLoaded r) k x = goes_next k.leads
-    stays_inside (Lower r) k x = goes_next k.leads
-    stays_inside (New r count cells site) k x = goes_next k.leads
-    stays_inside (TakeCell r cell site) k x = goes_next k.leads
     stays_inside (TakeLocal r from site) k x = takes (is_null (ref a from)) _ _ x (goes_next k.leads) (goes_next k.leads)
-    stays_inside (TestSole r site) k x = goes_next k.leads
-    stays_inside (Clear r cells) k x = goes_next k.leads
-    stays_inside (Give r site) k x = goes_next k.leads
-    stays_inside (Free r layout site) k x = goes_next k.leads
     stays_inside (Lock cell site) k x = locks_inside cell (a.held ++ cell_at p a cell ∷ []) (a.events ++ event_of (source_at p site).site (Act.Lock (cell_at p a cell)) (pos 0) ∷ []) k.leads
-    stays_inside (Unlock r cell site) k x = goes_next k.leads
     stays_inside (Spawn r function from site) k x = spawns_inside from r x (a.events ++ event_of (source_at p site).site (Act.Spawn function (argument a from)) x ∷ []) k.leads
-    stays_inside (Join r site) k x = goes_next k.leads
-    stays_inside (Print r site) k x = goes_next k.leads
     stays_inside (Start site) k x = absurd k.leads
     stays_inside Exit k x = absurd k.leads
-    stays_inside (CondEnter cell site) k x = goes_next k.leads
-    stays_inside (CondWait cell site) k x = goes_next k.leads
-    stays_inside (CondSignal cell site) k x = goes_next k.leads
-    stays_inside (CondBroadcast cell site) k x = goes_next k.leads
+    stays_inside _ k x = goes_next k.leads
 
   exits_inside : (a : Thread) (phase : Phase) (x : ℤ) → InExit a.pc a.frames → Inside (after a (exit p a phase) x)
   exits_inside a Running x h = inr h

@@ -1,5 +1,5 @@
 -- What a turn lowers, in guarded code and in code.
-use Rattle.sharc_compile.proofs.Imports.{◌≡◌, ℕ, ℤ, pos, negsuc, zero, suc, ◌+◌, ◌*◌, ◌⊎◌, inl, inr, Bool, true, false, not, List, [], ◌∷◌, ◌++◌, length, Option, Some, None, Result, Ok, Err, nat_lt, refl, sym, ap, ◌∙◌, arith, cond, append-nil, length-append, option_to_list, SourceEvent, Trap, Function, Cell, Global, GlobalAt, InObject, ObjectAt, Instr, ComputeInt, ComputeLong, NegateInt, NegateLong, ChkWidth, JumpIfZero, JumpIfNull, Call, Return, ChkNull, ChkHeld, ChkNotHeld, ChkPositive, ChkRoom, ChkLock, ChkLockLoaded, Bounds, GlobalBounds, Load, Store, LoadRef, Exchange, Lower, New, TakeCell, TakeLocal, Give, Free, Lock, Unlock, Spawn, Join, Print, Start, Exit, CondEnter, CondWait, CondSignal, CondBroadcast, Register, Int, Long, Shape, Frame, holds, is_zero, computed, negated, Machine, ref, lower, is_positive, made_cell, is_null, number_of, elements_of, Program, Thread, Phase, Running, Leaving, Left, Turn, Goes, Asks, Checks, Halts, is_held, without_base, handed, step, instr_of, lowered_by, unless_told}
+use Rattle.sharc_compile.proofs.Imports.{◌≡◌, ℕ, ℤ, pos, negsuc, zero, suc, ◌+◌, ◌*◌, ◌⊎◌, inl, inr, Bool, true, false, not, List, [], ◌∷◌, ◌++◌, length, Option, Some, None, Result, Ok, Err, nat_lt, refl, sym, ap, ◌∙◌, arith, cond, append-nil, length-append, option_to_list, SourceEvent, Trap, Function, Cell, Global, Instr, ComputeInt, ComputeLong, NegateInt, NegateLong, ChkWidth, JumpIfZero, JumpIfNull, Call, Return, ChkNull, ChkHeld, ChkNotHeld, ChkPositive, ChkRoom, ChkLock, ChkLockLoaded, Bounds, GlobalBounds, Load, Store, LoadRef, Exchange, Lower, New, TakeCell, TakeLocal, Give, Free, Lock, Unlock, Spawn, Join, Print, Start, Exit, CondEnter, CondWait, CondSignal, CondBroadcast, Register, Int, Long, Shape, Frame, holds, is_zero, computed, negated, Machine, ref, lower, is_positive, made_cell, is_null, number_of, elements_of, Program, Thread, Phase, Running, Leaving, Left, Turn, Goes, Asks, Checks, Halts, is_held, without_base, handed, step, instr_of, lowered_by, unless_told}
 use Rattle.sharc_code.specs.Path as Code
 use Rattle.sharc_guard.specs.Machine as Form
 use Rattle.sharc_guard.specs.{Machine.{int, cell_at, is_of_null}, Path.{after, may_go}}
@@ -69,9 +69,7 @@ exits p a Left = tt
 
 base_same : (b : Thread) (cell : Cell) → ((without_base b cell).events ≡ b.events) × ((without_base b cell).lowered ≡ b.lowered)
 base_same b (Global global cell) = (refl, refl)
-base_same b (GlobalAt global r) = (refl, refl)
-base_same b (InObject r cell) = (refl, refl)
-base_same b (ObjectAt r at) = (refl, refl)
+base_same b _ = (refl, refl)
 
 handed_same : (b : Thread) (from : Register) → ((handed b from).events ≡ b.events) × ((handed b from).lowered ≡ b.lowered)
 handed_same b (Register.Int r) = (refl, refl)

@@ -1,5 +1,5 @@
 -- One turn of code beside guarded code, whatever the statement is.
-use Rattle.sharc_compile.proofs.{Imports.{◌≡◌, ℕ, zero, suc, ◌+◌, ◌^◌, ◌<◌, ◌≤◌, true, false, not, ◌==◌, List, length, refl, sym, ap, ◌∙◌, subst, arith, nat_lt, None, Act, Trap, Kind, NewView, Code, Int, Long, Cell, Global, GlobalAt, InObject, ObjectAt, Instr, Constant, Move, MoveReference, Null, ComputeInt, ComputeLong, NegateInt, NegateLong, Complement, Not, SameReference, ChkWidth, Jump, JumpIfZero, JumpIfNull, Call, Return, ChkNull, ChkHeld, ChkNotHeld, ChkPositive, ChkRoom, ChkLock, ChkLockLoaded, Bounds, GlobalBounds, ChkRead, ChkWrite, Load, Store, LoadRef, Exchange, Raise, RaiseLoaded, Lower, New, TakeCell, TakeLocal, TestSole, Clear, Give, Free, Lock, Unlock, Spawn, Join, Print, Start, Exit, CondEnter, CondWait, CondSignal, CondBroadcast, Shape, TurnState, Runs, Tries, Stopped, Ended, Stage, Rests, Looks, Clears, Makes, Empties, Lowers, FreeLooks, FreeClears, Uncounts, Links, Names, Hands, Begins, Enters, Withdraws, WithdrawsFrom, Leaves, Wakes, computed, negated, complement, is_zero, truth, holds, cell_of, granule_at, granule_of, Machine, int, ref, act, goes, accessed, set_ref, is_positive, place, object, is_of_null, after, asked_by, may_go, is_failed_try, repeats, said, speaks_of, cell_at, made_cell, place_at, mode_of, NULL, is_null, number_of, elements_of, IsAtPlace, IsGuarded, Program, Thread, Phase, Turn, Running, statement_at, turn, step, function_at, weight, instr_of, program_over, Elements, MayFind, IsMutex, IsLock, Same, IsAtStage, IsInClear, IsInFree, IsInSpawn, IsInExit, IsInSignal, IsInNew, phase_of, phase_at, IsCell, times_le}, Registers.{no_reference, elements_are}, Logs.log_length, Sames.{all_ints, all_refs, int_is, ref_is, null_at, pending_null, pending_number, set_ref_same, null_same, pending_same, null_cell, cell_is, mode_is}, Turns.Turned}
+use Rattle.sharc_compile.proofs.{Imports.{◌≡◌, ℕ, zero, suc, ◌+◌, ◌^◌, ◌<◌, ◌≤◌, true, false, not, ◌==◌, List, length, refl, sym, ap, ◌∙◌, subst, arith, nat_lt, None, Act, Trap, Kind, Code, Int, Long, Cell, InObject, ObjectAt, Instr, Constant, Move, MoveReference, Null, ComputeInt, ComputeLong, NegateInt, NegateLong, Complement, Not, SameReference, ChkWidth, Jump, JumpIfZero, JumpIfNull, Call, Return, ChkNull, ChkHeld, ChkNotHeld, ChkPositive, ChkRoom, ChkLock, ChkLockLoaded, Bounds, GlobalBounds, ChkRead, ChkWrite, Load, Store, LoadRef, Exchange, Raise, RaiseLoaded, Lower, New, TakeCell, TakeLocal, TestSole, Clear, Give, Free, Lock, Unlock, Spawn, Join, Print, Start, Exit, CondEnter, CondWait, CondSignal, CondBroadcast, Shape, TurnState, Runs, Tries, Stopped, Ended, Stage, Rests, Withdraws, WithdrawsFrom, Leaves, computed, negated, complement, is_zero, truth, holds, cell_of, granule_at, granule_of, Machine, int, ref, act, goes, accessed, set_ref, is_positive, place, object, is_of_null, after, asked_by, may_go, is_failed_try, repeats, said, speaks_of, cell_at, made_cell, place_at, mode_of, NULL, is_null, number_of, elements_of, IsAtPlace, IsGuarded, Program, Thread, Running, statement_at, turn, step, function_at, weight, instr_of, program_over, Elements, MayFind, IsMutex, IsLock, Same, IsAtStage, IsInExit, phase_of, phase_at, IsCell, times_le}, Registers.{no_reference, elements_are}, Logs.log_length, Sames.{all_ints, all_refs, int_is, ref_is, null_at, pending_null, pending_number, set_ref_same, null_same, pending_same, null_cell, cell_is, mode_is}, Turns.Turned, Lowering.lower_goes}
 use Rattle.sharc_guard.specs.Machine as Form
 use Rattle.sharc_compile.proofs.Inside as Inner
 use Rattle.sharc_compile.proofs.Single as Single
@@ -17,49 +17,15 @@ IsSingle Exit = ⊥
 IsSingle (CondSignal cell site) = ⊥
 IsSingle _ = Unit {0}
 
-not_clear : (i : Instr) → IsSingle i → IsInClear i → ⊥
-not_clear (Clear r cells) k x = k
-not_clear _ k x = x
-
-not_free : (i : Instr) → IsSingle i → IsInFree i → ⊥
-not_free (Free r layout site) k x = k
-not_free _ k x = x
-
-not_spawn : (i : Instr) → IsSingle i → IsInSpawn i → ⊥
-not_spawn (Spawn r function from site) k x = k
-not_spawn _ k x = x
-
-not_exit : (i : Instr) → IsSingle i → IsInExit i → ⊥
-not_exit Exit k x = k
-not_exit _ k x = x
-
-not_signal : (i : Instr) → IsSingle i → IsInSignal i → ⊥
-not_signal (CondSignal cell site) k x = k
-not_signal _ k x = x
-
-not_new : (m : Machine) (state : NewView) (i : Instr) → IsSingle i → IsInNew m (Makes state) i → ⊥
-not_new m state (New r count cells site) k x = k
-not_new m state _ k x = x
-
 rest_of : (m : Machine) (i : Instr) → IsSingle i → (st : Stage) → IsAtStage m i st → st ≡ Rests
-rest_of m i k Rests at = refl
-rest_of m i k (Looks n l) at = absurd (not_clear i k at)
-rest_of m i k (Clears n l j) at = absurd (not_clear i k at)
-rest_of m i k (Makes state) at = absurd (not_new m state i k at)
-rest_of m i k (Empties n l) at = absurd (not_free i k at)
-rest_of m i k (Lowers n l j) at = absurd (not_free i k at)
-rest_of m i k (FreeLooks n l) at = absurd (not_free i k at)
-rest_of m i k (FreeClears n l j) at = absurd (not_free i k at)
-rest_of m i k (Uncounts n) at = absurd (not_free i k at)
-rest_of m i k (Links n) at = absurd at
-rest_of m i k (Names n) at = absurd (not_spawn i k at)
-rest_of m i k (Hands n) at = absurd (not_spawn i k at)
-rest_of m i k (Begins n) at = absurd (not_spawn i k at)
-rest_of m i k (Enters n) at = absurd at
-rest_of m i k (Withdraws n) at = absurd (not_exit i k at)
-rest_of m i k (WithdrawsFrom n l) at = absurd (not_exit i k at)
-rest_of m i k Leaves at = absurd (not_exit i k at)
-rest_of m i k (Wakes n) at = absurd (not_signal i k at)
+rest_of m (New r count cells site) k st at = absurd k
+rest_of m (Clear r cells) k st at = absurd k
+rest_of m (Free r layout site) k st at = absurd k
+rest_of m (Spawn r function from site) k st at = absurd k
+rest_of m Exit k st at = absurd k
+rest_of m (CondSignal cell site) k st at = absurd k
+rest_of m _ k Rests at = refl
+rest_of m _ k _ at = absurd at
 
 pub phase_now : (state : TurnState) (st : Stage) → may_go state ≡ true → phase_of state st ≡ phase_at st
 phase_now Runs st h = refl
@@ -67,38 +33,16 @@ phase_now Tries st h = refl
 phase_now Stopped st h = refl
 phase_now Ended st h = absurd (cc)
 
+not_exit : (i : Instr) → (i ≡ Exit → ⊥) → IsInExit i → ⊥
+not_exit Exit ne x = ne refl
+not_exit _ ne x = x
+
 -- the stages of all but Exit are those of a running thread
 in_body : (m : Machine) (i : Instr) → (i ≡ Exit → ⊥) → (st : Stage) → IsAtStage m i st → phase_at st ≡ Running
-in_body m i ne Rests at = refl
-in_body m i ne (Looks n l) at = refl
-in_body m i ne (Clears n l j) at = refl
-in_body m i ne (Makes state) at = refl
-in_body m i ne (Empties n l) at = refl
-in_body m i ne (Lowers n l j) at = refl
-in_body m i ne (FreeLooks n l) at = refl
-in_body m i ne (FreeClears n l j) at = refl
-in_body m i ne (Uncounts n) at = refl
-in_body m i ne (Links n) at = refl
-in_body m i ne (Names n) at = refl
-in_body m i ne (Hands n) at = refl
-in_body m i ne (Begins n) at = refl
-in_body m i ne (Enters n) at = refl
-in_body m i ne (Withdraws n) at = absurd (only i ne at)
-  where
-    only : (i : Instr) → (i ≡ Exit → ⊥) → IsInExit i → ⊥
-    only Exit ne x = ne refl
-    only _ ne x = x
-in_body m i ne (WithdrawsFrom n l) at = absurd (only i ne at)
-  where
-    only : (i : Instr) → (i ≡ Exit → ⊥) → IsInExit i → ⊥
-    only Exit ne x = ne refl
-    only _ ne x = x
-in_body m i ne Leaves at = absurd (only i ne at)
-  where
-    only : (i : Instr) → (i ≡ Exit → ⊥) → IsInExit i → ⊥
-    only Exit ne x = ne refl
-    only _ ne x = x
-in_body m i ne (Wakes n) at = refl
+in_body m i ne (Withdraws n) at = absurd (not_exit i ne at)
+in_body m i ne (WithdrawsFrom n l) at = absurd (not_exit i ne at)
+in_body m i ne Leaves at = absurd (not_exit i ne at)
+in_body m i ne _ at = refl
 
 module _ (code : Code) (s : Shape) (statements : List Instr) (good : IsGuarded (program_over code statements)) (T : Elements) (m : Machine) (a : Thread) (found cost : ℕ) (one : cost ≤ 1)
     (same : Same code s T m a) (pc : a.pc ≡ m.at.pc) where
@@ -147,24 +91,15 @@ module _ (code : Code) (s : Shape) (statements : List Instr) (good : IsGuarded (
         let k = ref_is code s T m a same base in
         ap elements_of k.is ∙ elements_are (ref m base) (T (ref m base)) some k.small ∙ sym e
 
+    some_number : (n : ℕ) → (n == 0) ≡ false → 0 < n
+    some_number zero e = absurd (cc)
+    some_number (suc n) e = omega arith
+
     -- a lock's cell
     lock_there : (cell : Cell) → IsLock code s m cell → is_of_null m cell ≡ false → IsMutex code s m cell
-    lock_there (Global g c) k e = k
-    lock_there (GlobalAt g r) k e = k
-    lock_there (InObject r c) k e = k (some (ref m r) e)
-      where
-        some : (n : ℕ) → (n == 0) ≡ false → 0 < n
-        some zero e = absurd (cc)
-        some (suc n) e = omega arith
-    lock_there (ObjectAt r at) k e = k (some (ref m r) e)
-      where
-        some : (n : ℕ) → (n == 0) ≡ false → 0 < n
-        some zero e = absurd (cc)
-        some (suc n) e = omega arith
-
-    lock_said : (number place : ℕ) (n : ℕ) → (n == 0) ≡ false → 0 < n
-    lock_said number place zero e = absurd (cc)
-    lock_said number place (suc n) e = omega arith
+    lock_there (InObject r c) k e = k (some_number (ref m r) e)
+    lock_there (ObjectAt r at) k e = k (some_number (ref m r) e)
+    lock_there _ k e = k
 
     module _ (rest : m.own.stage ≡ Rests) (running : a.phase ≡ Running) where
       -- the statements of one turn
@@ -218,7 +153,7 @@ module _ (code : Code) (s : Shape) (statements : List Instr) (good : IsGuarded (
           (λ e. Single.mutex_held code s statements T m a cost one rest same pc running fi fr int_ok ref_ok good.apart cell (lock_there cell finds e)) (ap (λ i. step p i a) is)
       single (ChkLockLoaded site) one_turn is k finds quiet tried =
           Single.locks_checked code s statements T m a cost one rest same pc running fi fr int_ok ref_ok good.apart (m.pending == 0) (is_null a.pending) m.pending (cell_of m.pending 0) (made_cell (number_of a.pending) 0) site (pending_null code s T m a same)
-          (λ e. let some = lock_said 0 0 m.pending e in Single.log_of code s statements T m a cost one rest same pc running fi fr int_ok ref_ok good.apart m.pending (cell_of m.pending 0) (made_cell (number_of a.pending) 0)
+          (λ e. let some = some_number m.pending e in Single.log_of code s statements T m a cost one rest same pc running fi fr int_ok ref_ok good.apart m.pending (cell_of m.pending 0) (made_cell (number_of a.pending) 0)
           (subst (λ n. IsCell code.globals.items m.pending (cell_of m.pending 0) (made_cell n 0)) (sym (pending_number code s T m a same)) (record { number_is = refl; place_is = refl; known = some })) (finds some)) (ap (λ i. step p i a) is)
       single (Bounds r base cells field site) one_turn is k finds quiet tried =
           Single.indexes code s statements T m a cost one rest same pc running fi fr int_ok ref_ok r (int m r) (Form.int a r) cells field site found (elements_of (Form.ref a base)) (int_is code s T m a same r) (elements_found base finds.some finds.elements) finds.few k.writes (ap (λ i. step p i a) is)
@@ -240,7 +175,7 @@ module _ (code : Code) (s : Shape) (statements : List Instr) (good : IsGuarded (
           (Single.goes_plain code s statements T m a cost one rest same pc running fi fr int_ok ref_ok (goes (accessed (set_ref m r m.pending))) (Form.next (Form.accessed (Form.set_ref a r a.pending)))
           (pending_same code s T (set_ref m r m.pending) (Form.set_ref a r a.pending) (set_ref_same code s T m a same r m.pending a.pending same.loaded (ref_ok r k.writes)) 0 NULL (no_reference T)) refl refl refl refl refl refl)
       single (Lower r) one_turn is k finds quiet tried =
-          subst (λ x. Turned code s statements T m a cost (step p (Lower r) a) 1 x None) (sym (Asking.lowers s (ref m r) (goes (set_ref m r 0)) found))
+          subst (λ x. Turned code s statements T m a cost (step p (Lower r) a) 1 x None) (sym (lower_goes s (ref m r) (goes (set_ref m r 0)) found))
           (Single.goes_plain code s statements T m a cost one rest same pc running fi fr int_ok ref_ok (goes (set_ref m r 0)) (Form.next (Form.lowered a r)) (null_same code s T m a same r (ref_ok r k.writes)) refl refl refl refl refl refl)
       single (TakeCell r cell site) one_turn is k finds quiet tried = Asking.takes_cell code s statements T m a cost one rest same pc running fi fr int_ok ref_ok r cell site found finds k.writes
       single (TakeLocal r from site) one_turn is k finds quiet tried = Asking.takes_local code s statements T m a cost one rest same pc running fi fr int_ok ref_ok r from site found k.writes.0 k.writes.1
@@ -260,12 +195,7 @@ module _ (code : Code) (s : Shape) (statements : List Instr) (good : IsGuarded (
       single (CondWait cell site) one_turn is k finds quiet tried = Asking.wakes code s statements T m a cost one rest same pc running fi fr int_ok ref_ok cell site found tried
       single (CondBroadcast cell site) one_turn is k finds quiet tried =
           Asking.tells code s statements T m a cost one rest same pc running fi fr int_ok ref_ok site (Act.Broadcast (cell_at code m cell)) (Act.Broadcast (Form.cell_at p a cell)) (ap Act.Broadcast (sym (cell_is code s T m a same statements cell))) (goes m) same refl refl refl
-      single (New r count cells site) one_turn is k finds quiet tried = absurd one_turn
-      single (Clear r cells) one_turn is k finds quiet tried = absurd one_turn
-      single (Free r layout site) one_turn is k finds quiet tried = absurd one_turn
-      single (Spawn r function from site) one_turn is k finds quiet tried = absurd one_turn
-      single Exit one_turn is k finds quiet tried = absurd one_turn
-      single (CondSignal cell site) one_turn is k finds quiet tried = absurd one_turn
+      single _ one_turn is k finds quiet tried = absurd one_turn
 
     -- ---- any statement of a body
     pub by_kind : (i : Instr) → statement_at p a.pc ≡ i → IsAtPlace p good.owner a.pc i → IsAtStage m i m.own.stage → MayFind code s T m found (instr_of code.functions.items i)

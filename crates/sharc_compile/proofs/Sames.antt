@@ -1,5 +1,5 @@
 -- What is the same in a machine of code and in a thread of guarded code, and stays so where both write the same.
-use Rattle.sharc_compile.proofs.{Imports.{◌≡◌, ℕ, ℤ, ◌+◌, ◌-◌, ◌*◌, ◌<◌, inl, inr, List, refl, sym, ap, ◌∙◌, subst, arith, slice_index, get_or as slice_index_or, slice_set, ◌==◌, lt-ltb, CellAt, CellMode, Code, PlaceMode, Private, Readonly, Racy, Dynamic, LockedGlobal, LockedSibling, LockedThrough, LockedLoaded, Cell, Global, GlobalAt, InObject, ObjectAt, Instr, Shape, FRAMES, word_of, first_cell, words_of, word_at, Machine, int, ref, set_int, set_ref, place, object, is_of_null, most_ints, most_refs, cell_at, mode_of, no_global, made_cell, IsInGlobal, NULL, is_null, number_of, Program, Thread, program_over, Elements, Has, IsThere, AreInts, AreRefs, IsReference, IsCell, Same}, Registers.{int_written, ref_written, no_reference, retabled, null_of, number_from, through_is}}
+use Rattle.sharc_compile.proofs.{Imports.{◌≡◌, ℕ, ℤ, ◌+◌, ◌-◌, ◌*◌, ◌<◌, inl, inr, List, refl, sym, ap, ◌∙◌, subst, arith, slice_index, get_or as slice_index_or, slice_set, ◌==◌, lt-ltb, CellAt, CellMode, Code, PlaceMode, LockedThrough, LockedLoaded, Cell, Global, GlobalAt, InObject, ObjectAt, Instr, Shape, FRAMES, word_of, first_cell, words_of, word_at, Machine, int, ref, set_int, set_ref, place, object, is_of_null, most_ints, most_refs, cell_at, mode_of, no_global, made_cell, IsInGlobal, NULL, is_null, number_of, Program, Thread, program_over, Elements, Has, IsThere, AreInts, AreRefs, IsReference, IsCell, Same}, Registers.{int_written, ref_written, no_reference, retabled, null_of, number_from, through_is}}
 use Rattle.sharc_guard.specs.Machine as Form
 
 abbrev pub all_ints : Code → ℕ
@@ -93,14 +93,9 @@ module _ (code : Code) (s : Shape) (T : Elements) (m : Machine) (a : Thread) (h 
     cell_is (ObjectAt r at) = ap (λ n. made_cell n (word_of (Form.int a at))) (number_at r) ∙ ap (λ z. made_cell (ref m r) (word_of z)) (int_is at)
 
     pub mode_is : (c : CellAt) (mode : PlaceMode) → Form.mode_of p a c mode ≡ mode_of code m c mode
-    mode_is c Private = refl
-    mode_is c Readonly = refl
-    mode_is c Racy = refl
-    mode_is c Dynamic = refl
-    mode_is c (LockedGlobal g place) = refl
-    mode_is c (LockedSibling field mutex) = refl
     mode_is c (LockedThrough r place) = ap CellMode.Locked (through_is T (ref m r) place (Form.ref a r) (ref_is r))
     mode_is c LockedLoaded = ap CellMode.Locked (through_is T m.pending 0 a.pending h.loaded)
+    mode_is c _ = refl
 
     -- a global's cell is at its place
     in_global : (g place : ℕ) → IsInGlobal code.globals.items g place → IsCell code.globals.items 0 place (Form.global_at p g place)

@@ -55,9 +55,7 @@ takes_quiet r x spot m false = ((refl, [], same_given m), refl, λ v n. refl)
 
 base_events : (cell : Cell) (n : At) → (without_base cell n).events ≡ n.events
 base_events (Cell.Global g place) n = refl
-base_events (Cell.GlobalAt g i) n = refl
-base_events (Cell.Object r k) n = refl
-base_events (Cell.ObjectAt r i) n = refl
+base_events _ n = refl
 
 handed_events : (from : Register) (n : At) → (handed from n).events ≡ n.events
 handed_events (Register.Int i) n = refl

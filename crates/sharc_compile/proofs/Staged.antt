@@ -1,5 +1,5 @@
 -- The statements of several turns, stage by stage.
-use Rattle.sharc_compile.proofs.{Imports.{◌≡◌, ℕ, ℤ, zero, suc, pos, ◌+◌, ◌*◌, ◌<◌, ◌≤◌, inl, inr, Bool, true, false, not, ◌||◌, List, [], ◌∷◌, ◌++◌, length, min, refl, sym, ap, ◌∙◌, subst, arith, ◌==◌, nat_lt, Option, Some, None, ne_eqb, eq-eqb, append-nil, nat_eq, nat_le, if◌then◌else◌, Act, SourceEvent, Site, THREADS, lowest_of, NewView, told, next_stage, try_from, after_cell, turn_of_stage, NewArguments, NewStage, Code, Layout, Cell, Register, Instr, New, Clear, Free, Spawn, Exit, CondSignal, Shape, Runs, Stage, Rests, Looks, Clears, Makes, Empties, Lowers, FreeLooks, FreeClears, Uncounts, Links, Names, Hands, Begins, Enters, Withdraws, WithdrawsFrom, Leaves, Wakes, Stop, Trapped as Trap, Machine, int, ref, set_int, set_ref, at_stage, rests, trapped, stopped, new_state, new, asks_new, after_new, made, looks, clear, data_granules, fields, largest, free, free_looks, empties, emptied, layout_at, spawn, withdraws, exit, wakes, signal, word, ends, function_of, goes_on_new, after, repeats, clears_cell, fails_in_new, reference, cell_at, mode_of, place_at, event_at, made_cell, argument_of, of_argument, new_event, in_new, in_free, in_spawn, in_exit, in_signal, nobody, own_event, HandedWithin, Program, Thread, Turn, Goes, Asks, Halts, Running, Leaving, Left, event_of, source_at, statement_at, turn, NULL, program_over, Elements, IsNew, IsNewIn, IsNewAt, Has, elements_told, Same, MatchesThread, IsAtStage, IsInNew, IsGoing, phase_of, phase_at, StopsAt, IsOver, Refuses, spent_at, spent_in_new, by}, Registers.number_is, Sames.{all_ints, all_refs, int_is, ref_is, cell_is, mode_is, set_int_same, set_ref_same, null_same, same_retabled}, Turns.{Turned, left_at}}
+use Rattle.sharc_compile.proofs.{Imports.{◌≡◌, ℕ, ℤ, zero, suc, pos, ◌+◌, ◌*◌, ◌<◌, ◌≤◌, inl, inr, Bool, true, false, not, ◌||◌, List, [], ◌∷◌, ◌++◌, length, min, refl, sym, ap, ◌∙◌, subst, arith, ◌==◌, nat_lt, Option, Some, None, ne_eqb, eq-eqb, append-nil, nat_eq, nat_le, if◌then◌else◌, Act, SourceEvent, THREADS, lowest_of, NewView, told, next_stage, try_from, after_cell, turn_of_stage, NewArguments, NewStage, Code, Layout, Cell, Register, Instr, New, Clear, Free, Spawn, Exit, CondSignal, Shape, Runs, Stage, Rests, Looks, Clears, Makes, Empties, Lowers, FreeLooks, FreeClears, Uncounts, Links, Names, Hands, Begins, Withdraws, WithdrawsFrom, Leaves, Wakes, Stop, Trapped as Trap, Machine, int, ref, set_int, set_ref, at_stage, rests, trapped, stopped, new_state, new, asks_new, after_new, made, looks, clear, data_granules, fields, largest, free, free_looks, empties, emptied, layout_at, spawn, withdraws, exit, wakes, signal, word, ends, function_of, goes_on_new, after, repeats, clears_cell, fails_in_new, reference, cell_at, mode_of, place_at, event_at, made_cell, argument_of, of_argument, new_event, in_new, in_free, in_spawn, in_exit, in_signal, nobody, own_event, HandedWithin, Program, Thread, Turn, Goes, Running, Leaving, Left, event_of, source_at, statement_at, turn, NULL, program_over, Elements, IsNew, IsNewIn, IsNewAt, Has, elements_told, Same, MatchesThread, IsAtStage, IsInNew, IsGoing, phase_of, phase_at, StopsAt, IsOver, Refuses, spent_at, spent_in_new, by}, Registers.number_is, Sames.{all_ints, all_refs, int_is, ref_is, cell_is, mode_is, set_int_same, set_ref_same, null_same, same_retabled}, Turns.{Turned, event_is, left_at}}
 use Rattle.sharc_tree.specs.declared.trap.Trap.TheVariants as traps
 use Rattle.sharc_code.specs.{Machine.{elements_of, handed}, Says.number_of}
 use Rattle.sharc_guard.specs.Machine as Form
@@ -72,12 +72,6 @@ module _ (code : Code) (s : Shape) (statements : List Instr) (T : Elements) (m :
     pace = let q1 = ap left_at rest in omega arith;
   })
 
-  event_is : (site : Site) (act act' : Act) (answer answer' : ℤ) → act ≡ act' → answer ≡ answer'
-      → Some record { thread = m.own.number; site = site; answer = answer; act = act } ≡ Some (by m.own.number (event_of site act' answer'))
-  event_is site act act' answer answer' e f =
-      let F : Act → ℤ → Option SourceEvent = λ act answer. Some record { thread = m.own.number; site = site; answer = answer; act = act } in
-      ap (λ act. F act answer) e ∙ ap (F act') f
-
   tells_in : (w : ℕ) (site : ℕ) (act act' : Act) → act ≡ act' → (answering : ℤ → ℤ) (answer x : ℤ) → answer ≡ answering x → (go : ℤ → Thread → Thread) (m' : Machine)
       → cost + spent_at m.own.stage ≤ w
       → (go x (Form.told a (source_at p site).site act' (answering x))).events ≡ a.events ++ event_of (source_at p site).site act' (answering x) ∷ []
@@ -89,7 +83,7 @@ module _ (code : Code) (s : Shape) (statements : List Instr) (T : Elements) (m :
     answer = x;
     go = refl;
     event = Some (event_of (source_at p site).site act' (answering x));
-    said = event_is (source_at p site).site act act' answer (answering x) e f;
+    said = event_is m.own.number (source_at p site).site act act' answer (answering x) e f;
     events = events;
     stands = reached (elements_told (event_at code m site answer act) T) m' (go x (Form.told a (source_at p site).site act' (answering x))) k (pc1 ∙ ap (λ n. n + 1) pc ∙ sym pc2) phase runs rest;
     pace = let q1 = ap left_at rest in omega arith;
@@ -120,21 +114,7 @@ module _ (code : Code) (s : Shape) (statements : List Instr) (T : Elements) (m :
     clears Rests e at found rep =
         let q1 = ap spent_at e in
         looked 0 (data_granules found cells) (omega arith) (ap left_at e)
-    clears (Makes state) e at found rep = absurd at
-    clears (Empties n k) e at found rep = absurd at
-    clears (Lowers n k l) e at found rep = absurd at
-    clears (FreeLooks n k) e at found rep = absurd at
-    clears (FreeClears n k l) e at found rep = absurd at
-    clears (Uncounts k) e at found rep = absurd at
-    clears (Links k) e at found rep = absurd at
-    clears (Names n) e at found rep = absurd at
-    clears (Hands n) e at found rep = absurd at
-    clears (Begins n) e at found rep = absurd at
-    clears (Enters n) e at found rep = absurd at
-    clears (Withdraws n) e at found rep = absurd at
-    clears (WithdrawsFrom n k) e at found rep = absurd at
-    clears Leaves e at found rep = absurd at
-    clears (Wakes n) e at found rep = absurd at
+    clears _ e at found rep = absurd at
 
   -- ---- Spawn
   module _ (r function : ℕ) (from : Register) (site : ℕ) (is : statement_at p a.pc ≡ Spawn r function from site) (running : a.phase ≡ Running) (lt : r < fi) (within : HandedWithin fr from) where
@@ -177,20 +157,7 @@ module _ (code : Code) (s : Shape) (statements : List Instr) (T : Elements) (m :
     spawns (Begins n) e at found =
         let q1 = ap spent_at e in
         began n from within (omega arith)
-    spawns (Looks n k) e at found = absurd at
-    spawns (Clears n k l) e at found = absurd at
-    spawns (Makes state) e at found = absurd at
-    spawns (Empties n k) e at found = absurd at
-    spawns (Lowers n k l) e at found = absurd at
-    spawns (FreeLooks n k) e at found = absurd at
-    spawns (FreeClears n k l) e at found = absurd at
-    spawns (Uncounts k) e at found = absurd at
-    spawns (Links k) e at found = absurd at
-    spawns (Enters n) e at found = absurd at
-    spawns (Withdraws n) e at found = absurd at
-    spawns (WithdrawsFrom n k) e at found = absurd at
-    spawns Leaves e at found = absurd at
-    spawns (Wakes n) e at found = absurd at
+    spawns _ e at found = absurd at
 
   -- ---- CondSignal
   module _ (cell : Cell) (site : ℕ) (is : statement_at p a.pc ≡ CondSignal cell site) (running : a.phase ≡ Running) where
@@ -222,22 +189,7 @@ module _ (code : Code) (s : Shape) (statements : List Instr) (T : Elements) (m :
             let z = rep refl in
             let q1 = ap spent_at e in
             seen_now found (omega arith) (ap left_at e)
-    signals (Looks n k) e at found rep = absurd at
-    signals (Clears n k l) e at found rep = absurd at
-    signals (Makes state) e at found rep = absurd at
-    signals (Empties n k) e at found rep = absurd at
-    signals (Lowers n k l) e at found rep = absurd at
-    signals (FreeLooks n k) e at found rep = absurd at
-    signals (FreeClears n k l) e at found rep = absurd at
-    signals (Uncounts k) e at found rep = absurd at
-    signals (Links k) e at found rep = absurd at
-    signals (Names n) e at found rep = absurd at
-    signals (Hands n) e at found rep = absurd at
-    signals (Begins n) e at found rep = absurd at
-    signals (Enters n) e at found rep = absurd at
-    signals (Withdraws n) e at found rep = absurd at
-    signals (WithdrawsFrom n k) e at found rep = absurd at
-    signals Leaves e at found rep = absurd at
+    signals _ e at found rep = absurd at
 
   -- ---- Free
   module _ (r layout site : ℕ) (is : statement_at p a.pc ≡ Free r layout site) (running : a.phase ≡ Running) (lt : r < fr) where
@@ -272,7 +224,7 @@ module _ (code : Code) (s : Shape) (statements : List Instr) (T : Elements) (m :
       answer = pos 0;
       go = refl;
       event = Some (event_of (source_at p site).site (Act.Freed (Form.ref a r)) (pos 0));
-      said = event_is (source_at p site).site (Act.Freed (reference (ref m r) (T (ref m r)))) (Act.Freed (Form.ref a r)) (pos 0) (pos 0) (ap Act.Freed (sym (ref_is code s T m a same r).is)) refl;
+      said = event_is m.own.number (source_at p site).site (Act.Freed (reference (ref m r) (T (ref m r)))) (Act.Freed (Form.ref a r)) (pos 0) (pos 0) (ap Act.Freed (sym (ref_is code s T m a same r).is)) refl;
       events = refl;
       stands = inr (record {
         register = r;
@@ -314,18 +266,7 @@ module _ (code : Code) (s : Shape) (statements : List Instr) (T : Elements) (m :
     frees (Uncounts elements) e at found rep =
         let q1 = ap spent_at e in
         uncounted elements (omega arith) (ap left_at e)
-    frees (Links k) e at found rep = absurd at
-    frees (Looks n k) e at found rep = absurd at
-    frees (Clears n k l) e at found rep = absurd at
-    frees (Makes state) e at found rep = absurd at
-    frees (Names n) e at found rep = absurd at
-    frees (Hands n) e at found rep = absurd at
-    frees (Begins n) e at found rep = absurd at
-    frees (Enters n) e at found rep = absurd at
-    frees (Withdraws n) e at found rep = absurd at
-    frees (WithdrawsFrom n k) e at found rep = absurd at
-    frees Leaves e at found rep = absurd at
-    frees (Wakes n) e at found rep = absurd at
+    frees _ e at found rep = absurd at
 
   -- ---- New
   module _ (r count cells site : ℕ) (is : statement_at p a.pc ≡ New r count cells site) (running : a.phase ≡ Running) (lt : r < fr) where
@@ -467,22 +408,7 @@ module _ (code : Code) (s : Shape) (statements : List Instr) (T : Elements) (m :
         each false x = makes (told (new_state s m (elements_of (int m count)) cells) 0) NewStage.Link (ap (λ b. if b then NewStage.Top else NewStage.Link) x) tt refl found (ap spent_at e) (ap left_at e) tt (λ z. absurd (cc)) here (running ∙ sym (ap phase_at e))
     makes_new (Makes state) e at found fresh rep =
         makes state state.stage refl at.1 at.0 found (ap spent_at e) (ap left_at e) fresh rep (subst (IsAtStage m (New r count cells site)) (sym e) at) (running ∙ sym (ap phase_at e))
-    makes_new (Looks n k) e at found fresh rep = absurd at
-    makes_new (Clears n k l) e at found fresh rep = absurd at
-    makes_new (Empties n k) e at found fresh rep = absurd at
-    makes_new (Lowers n k l) e at found fresh rep = absurd at
-    makes_new (FreeLooks n k) e at found fresh rep = absurd at
-    makes_new (FreeClears n k l) e at found fresh rep = absurd at
-    makes_new (Uncounts k) e at found fresh rep = absurd at
-    makes_new (Links k) e at found fresh rep = absurd at
-    makes_new (Names n) e at found fresh rep = absurd at
-    makes_new (Hands n) e at found fresh rep = absurd at
-    makes_new (Begins n) e at found fresh rep = absurd at
-    makes_new (Enters n) e at found fresh rep = absurd at
-    makes_new (Withdraws n) e at found fresh rep = absurd at
-    makes_new (WithdrawsFrom n k) e at found fresh rep = absurd at
-    makes_new Leaves e at found fresh rep = absurd at
-    makes_new (Wakes n) e at found fresh rep = absurd at
+    makes_new _ e at found fresh rep = absurd at
 
   -- ---- Exit
   module _ (is : statement_at p a.pc ≡ Exit) where
@@ -563,17 +489,4 @@ module _ (code : Code) (s : Shape) (statements : List Instr) (T : Elements) (m :
             let q2 = ap left_at e in
             stays_in Exit is _ 1 (at_stage m (WithdrawsFrom row found)) (WithdrawsFrom row found) refl tt refl refl same phase (omega arith)
     exits Leaves e at phase found rep = left_now e
-    exits (Looks n k) e at phase found rep = absurd at
-    exits (Clears n k l) e at phase found rep = absurd at
-    exits (Makes state) e at phase found rep = absurd at
-    exits (Empties n k) e at phase found rep = absurd at
-    exits (Lowers n k l) e at phase found rep = absurd at
-    exits (FreeLooks n k) e at phase found rep = absurd at
-    exits (FreeClears n k l) e at phase found rep = absurd at
-    exits (Uncounts k) e at phase found rep = absurd at
-    exits (Links k) e at phase found rep = absurd at
-    exits (Names n) e at phase found rep = absurd at
-    exits (Hands n) e at phase found rep = absurd at
-    exits (Begins n) e at phase found rep = absurd at
-    exits (Enters n) e at phase found rep = absurd at
-    exits (Wakes n) e at phase found rep = absurd at
+    exits _ e at phase found rep = absurd at

@@ -8,6 +8,10 @@ abbrev pub left_at : Stage → ℕ
 left_at (Links elements) = 1
 left_at _ = 0
 
+-- what a thread says of an event, by an act and an answer that are the same
+pub event_is : (number : ℕ) (site : Site) (act act' : Act) (answer answer' : ℤ) → act ≡ act' → answer ≡ answer' → Some record { thread = number; site = site; answer = answer; act = act } ≡ Some (by number (event_of site act' answer'))
+event_is number site act act' answer answer' e f = ap (λ act. Some (by number (event_of site act answer))) e ∙ ap (λ answer. Some (by number (event_of site act' answer))) f
+
 module _ (code : Code) (s : Shape) (statements : List Instr) (T : Elements) (m : Machine) (a : Thread) (cost : ℕ) where
   abbrev pub over : Program
   over = program_over code statements

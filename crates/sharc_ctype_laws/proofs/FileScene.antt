@@ -1,5 +1,5 @@
 -- The scope of a file, and of each function's body, of which no fault is noted: each name means what the program's declarations say.
-use Rattle.sharc_ctype_laws.proofs.{Imports.{◌≡◌, ℕ, zero, suc, ◌+◌, Bool, true, false, cond, List, [], ◌∷◌, ◌++◌, length, drop, slice_get, refl, ap, sym, ◌∙◌, Option, Some, None, is_some, add-one, bytes_eq, true≢false, false_from_ne_true, bytes_eq-Decides, AllByRecursion, Declaration, StructDefinition, Function, Item, structure, global, function, Scope, StructTable, StructMeaning, defined, struct_of, Entry, look_up, Role, Heads, with_struct, with_entry, global_entry, function_entry, behind, behind_all, no_heads, defines_condition, with_conditions, fields_notes, parameters_notes, with_parameters, in_body, function_notes, items_notes, file_scope, Resolution, structs_in, globals_in, functions_in, declarations_in, declarations_of, with_names, declared, locals_in_all, struct_named, places_of, places_of_all, front, back, both, bytes_same}, Held.{Held, left, right}, Scenes.{IsMeant, AreMeant, IsField, IsStruct, AreStructs, IsScene, type_solid, type_result}, Walked.{AreDeclared, scene_with, declared_meant, JudgedAt, places_all}}
+use Rattle.sharc_ctype_laws.proofs.{Imports.{◌≡◌, ℕ, zero, suc, ◌+◌, Bool, true, false, cond, List, [], ◌∷◌, ◌++◌, length, drop, slice_get, refl, ap, sym, ◌∙◌, Option, Some, None, is_some, add-one, bytes_eq, true≢false, false_from_ne_true, bytes_eq-Decides, AllByRecursion, Declaration, StructDefinition, Function, Item, structure, global, function, Scope, StructTable, StructMeaning, defined, struct_of, Entry, look_up, Role, Heads, with_struct, with_entry, global_entry, function_entry, behind, behind_all, no_heads, defines_condition, with_conditions, fields_notes, parameters_notes, with_parameters, in_body, function_notes, items_notes, file_scope, Resolution, structs_in, globals_in, functions_in, declarations_in, declarations_of, with_names, declared, struct_named, front, back, both, bytes_same}, Held.{Held, left, right}, Scenes.{IsMeant, AreMeant, IsField, IsStruct, AreStructs, IsScene, type_solid, type_result}, Walked.{AreDeclared, scene_with, declared_meant}}
 use Rattle.sharc_lemmas.proofs.Lists.{no_cons as none_left}
 
 -- what is at the head of what is left
@@ -153,18 +153,6 @@ parameters_meant r block before scope scene (x ∷ rest) d h =
 
 pub body_scene : (r : Resolution) (file : Scope) → IsScene r file → (f : Function) → AreDeclared r f.parameters → Held r (function_notes file f) → IsScene r (in_body file f)
 body_scene r file scene f d h = scene_with r file scene (with_parameters (length file.names) file.names f.parameters) (parameters_meant r (length file.names) 0 file scene f.parameters d (right r _ _ (left r _ _ (left r _ _ h))))
-
-pub function_places : (r : Resolution) (file : Scope) → IsScene r file → (f : Function) → AreDeclared r (declarations_of (function f)) → Held r (function_notes file f) → AllByRecursion (JudgedAt r) (places_of file f)
-function_places r file scene f d h =
-    places_all r _ (in_body file f) (body_scene r file scene f (front _ f.parameters (locals_in_all f.statements) d) h) f.statements (back _ f.parameters (locals_in_all f.statements) d) (right r _ _ (left r _ _ h))
-
-pub items_places : (r : Resolution) (file : Scope) → IsScene r file → (items : List Item) → AreDeclared r (declarations_in items) → Held r (items_notes file items) → AllByRecursion (JudgedAt r) (places_of_all file (functions_in items))
-items_places r file scene [] d h = tt
-items_places r file scene (structure s ∷ rest) d h = items_places r file scene rest (back _ s.fields (declarations_in rest) d) (right r _ _ h)
-items_places r file scene (global g ∷ rest) d h = items_places r file scene rest d (right r _ _ h)
-items_places r file scene (function f ∷ rest) d h =
-    both (JudgedAt r) (places_of file f) (places_of_all file (functions_in rest)) (function_places r file scene f (front _ (declarations_of (function f)) (declarations_in rest) d) (left r _ _ h))
-    (items_places r file scene rest (back _ (declarations_of (function f)) (declarations_in rest) d) (right r _ _ h))
 
 -- what holds of each function of which no fault is noted holds of all
 pub each_function : (r : Resolution) (file : Scope) (P : Function → Type 0) → ((f : Function) → AreDeclared r (declarations_of (function f)) → Held r (function_notes file f) → P f)

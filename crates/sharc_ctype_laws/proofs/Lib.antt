@@ -2,6 +2,7 @@ mod Imports
 pub mod AllLemmas
 pub mod AtMost
 pub mod Begun
+pub mod Checked
 pub mod Closed
 pub mod Counts
 pub mod Exact

@@ -1,5 +1,5 @@
 -- In a tree at its tokens no two names have one token: so notes without a fault say what the tokens name, and each declaration is found by its token.
-use Rattle.sharc_ctype_laws.proofs.{Imports.{◌≡◌, ⊎_elim, ℕ, ◌+◌, ◌≤◌, ◌<◌, zero, suc, Bool, true, false, cond, List, [], ◌∷◌, ◌++◌, length, fold, get_or, replicate, refl, ap, sym, ◌∙◌, subst, arith, Some, eq-eqb, ne_eqb, get_or-set_other, get_or-set_same, length-set, set, cases_eq, cases_lt, length-replicate, AllByRecursion, Keyword, Scast, Token, TokenKind, Declaration, IsLow, Mark, keyword_marks, kind_marks, marks_from, name_marks, type_marks, declaration_marks, declarations_marks, marks, option_marks, right_marks, simple_marks, local_marks, first_marks, head_marks, statement_marks, statements_marks, item_marks, items_marks, IsPlaced, Local, First, declares, Statement, Statements, no_statements, statement, Item, Program, Named, Note, fault, refers, yields, Findings, is_free, noted, faults, notes_about, nothing_found, Resolution, IsResolved, declarations_of, declarations_in, declared_at, named_at, first_locals, locals_in, locals_in_all, together}, AtMost.program_most, Counts.{one, told, written, written-append, told_refers, told_yields, written_one, written_cast, written_none}, Held.{Held, no_faults}, Walked.AreDeclared}
+use Rattle.sharc_ctype_laws.proofs.{Imports.{◌≡◌, ⊎_elim, ℕ, ◌+◌, ◌≤◌, ◌<◌, zero, suc, Bool, true, false, cond, List, [], ◌∷◌, ◌++◌, length, fold, get_or, replicate, refl, ap, sym, ◌∙◌, subst, arith, Some, eq-eqb, ne_eqb, get_or-set_other, get_or-set_same, length-set, set, cases_eq, cases_lt, length-replicate, AllByRecursion, Keyword, Scast, Token, TokenKind, Declaration, IsLow, Mark, keyword_marks, kind_marks, marks_from, name_marks, type_marks, declaration_marks, items_marks, IsPlaced, Program, Named, Note, fault, refers, yields, Findings, is_free, noted, faults, notes_about, nothing_found, Resolution, IsResolved, declared_at, named_at, together}, AtMost.program_most, Counts.{one, told, written, written-append, told_refers, told_yields, written_one, written_cast, written_none}, Held.{Held, no_faults}}
 use Rattle.sharc_tree.specs.Tree as tree
 
 pub one_same : (t : ℕ) → one t t ≡ 1
@@ -131,7 +131,7 @@ all_held r resolved own low =
 
 -- declarations
 
-times : ℕ → List Declaration → ℕ
+pub times : ℕ → List Declaration → ℕ
 times t [] = 0
 times t (d ∷ rest) = one t d.name.site.token + times t rest
 
@@ -143,67 +143,29 @@ times-append t (d ∷ rest) b = let e = times-append t rest b in omega (arith, e
 declaration_written : (t : ℕ) (d : Declaration) → one t d.name.site.token ≤ written t (declaration_marks d)
 declaration_written t d = let e = written-append t (type_marks d.written) (name_marks d.name) in let f = written_one t d.name.site.token d.name.text in omega (arith, e, f)
 
-declarations_written : (t : ℕ) (list : List Declaration) → times t list ≤ written t (declarations_marks list)
+pub one_written : (t : ℕ) (d : Declaration) → times t (d ∷ []) ≤ written t (declaration_marks d)
 unfolding times
-declarations_written t [] = omega arith
-declarations_written t (d ∷ rest) = let e = declaration_written t d in let f = declarations_written t rest in let g = written-append t (declaration_marks d) (declarations_marks rest) in omega (arith, e, f, g)
+one_written t d = let e = declaration_written t d in omega (arith, e)
 
-local_written : (t : ℕ) (l : Local) → times t (l.declaration ∷ []) ≤ written t (local_marks l)
-unfolding times
-local_written t l = let e = declaration_written t l.declaration in let f = written-append t (declaration_marks l.declaration) (option_marks right_marks l.initial) in omega (arith, e, f)
-
-first_written : (t : ℕ) (f : First) → times t (first_locals f) ≤ written t (first_marks f)
-unfolding times
-first_written t (declares l) = local_written t l
-first_written t _ = omega arith
-
-none_written : (t n : ℕ) → times t [] ≤ n
+pub none_written : (t n : ℕ) → times t [] ≤ n
 unfolding times
 none_written t n = omega arith
 
-locals_side : (t : ℕ) (a b : List Declaration) (x y : List Mark) → times t a ≤ written t x → times t b ≤ written t y → times t (a ++ b) ≤ written t (x ++ y)
+pub locals_side : (t : ℕ) (a b : List Declaration) (x y : List Mark) → times t a ≤ written t x → times t b ≤ written t y → times t (a ++ b) ≤ written t (x ++ y)
 locals_side t a b x y h k = let e = times-append t a b in let f = written-append t x y in omega (arith, e, f, h, k)
 
-locals_behind : (t : ℕ) (b : List Declaration) (x y : List Mark) → times t b ≤ written t y → times t b ≤ written t (x ++ y)
+pub locals_behind : (t : ℕ) (b : List Declaration) (x y : List Mark) → times t b ≤ written t y → times t b ≤ written t (x ++ y)
 locals_behind t b x y h = let f = written-append t x y in omega (arith, f, h)
 
-locals_before : (t : ℕ) (b : List Declaration) (x y : List Mark) → times t b ≤ written t x → times t b ≤ written t (x ++ y)
+pub locals_before : (t : ℕ) (b : List Declaration) (x y : List Mark) → times t b ≤ written t x → times t b ≤ written t (x ++ y)
 locals_before t b x y h = let f = written-append t x y in omega (arith, f, h)
-
-mutual
-  locals_written : (t : ℕ) (a : Statement) → times t (locals_in a) ≤ written t (statement_marks a)
-  locals_written t (tree.block s all) = all_locals_written t all
-  locals_written t (tree.declare s l) = local_written t l
-  locals_written t (tree.if_then s e a) = locals_behind t (locals_in a) (marks e) (statement_marks a) (locals_written t a)
-  locals_written t (tree.if_then_else s e a b) = locals_side t (locals_in a) (locals_in b) (marks e ++ statement_marks a) (statement_marks b) (locals_behind t (locals_in a) (marks e) (statement_marks a) (locals_written t a)) (locals_written t b)
-  locals_written t (tree.while s e a) = locals_behind t (locals_in a) (marks e) (statement_marks a) (locals_written t a)
-  locals_written t (tree.for s h a) =
-      locals_side t (first_locals h.first) (locals_in a) (head_marks h) (statement_marks a)
-      (locals_before t (first_locals h.first) (first_marks h.first ++ option_marks marks h.test) (option_marks simple_marks h.step) (locals_before t (first_locals h.first) (first_marks h.first) (option_marks marks h.test) (first_written t h.first)))
-      (locals_written t a)
-  locals_written t _ = none_written t _
-
-  all_locals_written : (t : ℕ) (all : Statements) → times t (locals_in_all all) ≤ written t (statements_marks all)
-  all_locals_written t no_statements = none_written t _
-  all_locals_written t (statement a rest) = locals_side t (locals_in a) (locals_in_all rest) (statement_marks a) (statements_marks rest) (locals_written t a) (all_locals_written t rest)
-
-item_written : (t : ℕ) (i : Item) → times t (declarations_of i) ≤ written t (item_marks i)
-item_written t (tree.structure s) = locals_behind t s.fields (name_marks s.name) (declarations_marks s.fields) (declarations_written t s.fields)
-item_written t (tree.global g) = none_written t _
-item_written t (tree.function f) =
-    locals_side t f.parameters (locals_in_all f.statements) (type_marks f.result ++ name_marks f.name ++ declarations_marks f.parameters) (statements_marks f.statements)
-    (locals_behind t f.parameters (type_marks f.result ++ name_marks f.name) (declarations_marks f.parameters) (declarations_written t f.parameters)) (all_locals_written t f.statements)
-
-items_written : (t : ℕ) (items : List Item) → times t (declarations_in items) ≤ written t (items_marks items)
-items_written t [] = none_written t _
-items_written t (i ∷ rest) = locals_side t (declarations_of i) (declarations_in rest) (item_marks i) (items_marks rest) (item_written t i) (items_written t rest)
 
 apart : (t : ℕ) (list : List Declaration) → times t list ≡ 0 → AllByRecursion (λ d. t ≡ d.name.site.token → ⊥) list
 unfolding times
 apart t [] h = tt
 apart t (d ∷ rest) h = ((λ is. let e = one_same t in let g = ap (one t) is in omega (arith, h, e, g)), apart t rest (omega (arith, h)))
 
-found_by_token : (list : List Declaration) → ((t : ℕ) → times t list ≤ 1) → AllByRecursion (λ d. declared_at list d.name.site.token ≡ Some d) list
+pub found_by_token : (list : List Declaration) → ((t : ℕ) → times t list ≤ 1) → AllByRecursion (λ d. declared_at list d.name.site.token ≡ Some d) list
 unfolding times
 found_by_token [] once = tt
 found_by_token (x ∷ rest) once =
@@ -214,6 +176,3 @@ found_by_token (x ∷ rest) once =
           (apart x.name.site.token rest (let o = once x.name.site.token in let s = one_same x.name.site.token in omega (arith, o, s)))
           (found_by_token rest (λ t. let o = once t in omega (arith, o))),
     )
-
-pub all_declared : (r : Resolution) → HasOwnTokens r.program → AreDeclared r (declarations_in r.program.items)
-all_declared r own = found_by_token (declarations_in r.program.items) (λ t. let e = items_written t r.program.items in let o = own.once t in omega (arith, e, o))

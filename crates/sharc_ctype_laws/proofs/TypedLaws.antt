@@ -1,5 +1,5 @@
 -- The laws of typed programs.
-use Rattle.sharc_ctype_laws.proofs.{Imports.{◌≡◌, ◌++◌, length, Some, arith, refl, AllByRecursion, IsLow, items_marks, in_function, Expression, HasType, NamesOwnVariables, MeetsRules, MeetsGlobals, SpawnsByName, SpawnsNameFunctions, SpawnsThreads, ReachesFunctions, OneType, EachNameOnce, OnlyNames, EachNamesItself, EachNamesOwn, NamesFound, EachNamesFound, EachPathFound, IsPlain, ArePlain, NamesInTypes, SameKinds, MeetsConstraints, MeetsStatements, AllFair, WithinLimits, HasMain, IsClosed, PathsAt, BodyStands, Placing, places_of, places_of_all, EachTypeFound, look_up, type_of, notes_of, IsFair, function_transfers, file_scope, items_notes, notes_about, main_missing, sizes_notes, heads_notes, no_heads, Resolution, IsResolved, functions_in, declarations_in, kind_at, each, together}, AtMost.program_most, Closed.{items_closed, body_stands, cast_stands, none_closed, all_types}, Exact.program_is, Begun.globals_meet, Fair.fair_function, FileScene.{file_scene, items_places, function_places, each_function}, Forgotten.in_function_all, Held.{Held, left, right, clean, clean_left, clean_right}, Judged.{named_by, spawned_name}, Limited.{few, small, few_cells, main_is}, TypesFound.each_found, OwnTokens.{HasOwnTokens, own_tokens, all_held, all_declared}, Plain.plain_function, Reached.{spawned_thread, reached_function}, Ruled.function_meets, OwnVariables.{own_variables, none_in_file}, Scenes.IsScene, Themselves.themselves, ToldOnce.{counted, name_counted, name_there, told_once}, TypesNamed.named_items, Walked.{AreDeclared, JudgedAt}}
+use Rattle.sharc_ctype_laws.proofs.{Imports.{◌≡◌, ◌++◌, length, Some, arith, refl, AllByRecursion, IsLow, items_marks, in_function, Expression, HasType, NamesOwnVariables, MeetsRules, MeetsGlobals, SpawnsByName, SpawnsNameFunctions, SpawnsThreads, ReachesFunctions, OneType, EachNameOnce, OnlyNames, EachNamesItself, EachNamesOwn, NamesFound, EachNamesFound, EachPathFound, IsPlain, ArePlain, NamesInTypes, SameKinds, MeetsConstraints, MeetsStatements, AllFair, WithinLimits, HasMain, IsClosed, PathsAt, BodyStands, Placing, places_of, places_of_all, EachTypeFound, look_up, type_of, notes_of, IsFair, function_transfers, file_scope, items_notes, notes_about, main_missing, sizes_notes, heads_notes, no_heads, Resolution, IsResolved, functions_in, declarations_in, kind_at, each, together}, AtMost.program_most, Closed.{items_closed, body_stands, cast_stands, none_closed, all_types}, Exact.program_is, Begun.globals_meet, FileScene.{file_scene, each_function}, Forgotten.in_function_all, Held.{Held, left, right, clean, clean_left, clean_right}, Judged.{named_by, spawned_name}, Limited.{few, small, few_cells, main_is}, TypesFound.{each_found, all_declared}, OwnTokens.{HasOwnTokens, own_tokens, all_held}, Reached.{spawned_thread, reached_function}, OwnVariables.{own_variables, none_in_file}, Scenes.IsScene, ToldOnce.{counted, name_counted, name_there, told_once}, Checked.{of_function, items_places, named_items, plain_function, themselves}, Walked.{AreDeclared, JudgedAt}}
 use Rattle.sharc_tree.specs.Tree as tree
 use Rattle.sharc_ctype_laws.proofs.OneType as types
 
@@ -40,7 +40,7 @@ meets_constraints r resolved placed low =
     let s = sound r resolved (own_tokens r.program placed) low in
     each_function r (file_scope r.program.items) (λ f. AllByRecursion (λ e. HasType r e (kind_at r e)) (in_function f))
     (λ f d h. in_function_all (λ e. HasType r e (kind_at r e)) (file_scope r.program.items) f
-    (each (JudgedAt r) (λ p. HasType r p.expression (kind_at r p.expression)) (λ p j. j.judged.has) (places_of (file_scope r.program.items) f) (function_places r (file_scope r.program.items) s.scene f d h)))
+    (each (JudgedAt r) (λ p. HasType r p.expression (kind_at r p.expression)) (λ p j. j.judged.has) (places_of (file_scope r.program.items) f) (of_function r (file_scope r.program.items) s.scene f d h).places))
     r.program.items s.declared s.items
 
 spawned_by_name : (r : Resolution) (p : Placing) → JudgedAt r p → SpawnsByName r p.expression
@@ -55,18 +55,18 @@ spawns_name_functions r resolved placed low =
     let s = sound r resolved (own_tokens r.program placed) low in
     each_function r (file_scope r.program.items) (λ f. AllByRecursion (SpawnsByName r) (in_function f))
     (λ f d h. in_function_all (SpawnsByName r) (file_scope r.program.items) f
-    (each (JudgedAt r) (λ p. SpawnsByName r p.expression) (spawned_by_name r) (places_of (file_scope r.program.items) f) (function_places r (file_scope r.program.items) s.scene f d h)))
+    (each (JudgedAt r) (λ p. SpawnsByName r p.expression) (spawned_by_name r) (places_of (file_scope r.program.items) f) (of_function r (file_scope r.program.items) s.scene f d h).places))
     r.program.items s.declared s.items
 
 pub meets_statements : MeetsStatements
 meets_statements r resolved placed low =
     let s = sound r resolved (own_tokens r.program placed) low in
-    each_function r (file_scope r.program.items) (MeetsRules r) (λ f d h. function_meets r (file_scope r.program.items) s.scene f d h) r.program.items s.declared s.items
+    each_function r (file_scope r.program.items) (MeetsRules r) (λ f d h. (of_function r (file_scope r.program.items) s.scene f d h).meets) r.program.items s.declared s.items
 
 pub all_fair : AllFair
 all_fair r resolved placed low =
     let s = sound r resolved (own_tokens r.program placed) low in
-    each_function r (file_scope r.program.items) (λ f. AllByRecursion (IsFair r) (function_transfers r f)) (λ f d h. fair_function r (file_scope r.program.items) s.scene f d h) r.program.items s.declared s.items
+    each_function r (file_scope r.program.items) (λ f. AllByRecursion (IsFair r) (function_transfers r f)) (λ f d h. (of_function r (file_scope r.program.items) s.scene f d h).fair) r.program.items s.declared s.items
 
 pub each_name_once : EachNameOnce
 each_name_once r resolved placed low token c =
@@ -114,12 +114,12 @@ has_main r resolved placed low =
 pub each_names_itself : EachNamesItself
 each_names_itself r resolved placed low =
     let s = sound r resolved (own_tokens r.program placed) low in
-    themselves r no_heads (file_scope r.program.items) refl refl refl s.declared s.heads s.items
+    themselves r no_heads (file_scope r.program.items) refl refl refl s.scene s.declared s.heads s.items
 
 pub each_names_own : EachNamesOwn
 each_names_own r resolved placed low =
     let s = sound r resolved (own_tokens r.program placed) low in
-    each_function r (file_scope r.program.items) (NamesOwnVariables r) (λ f d h. own_variables r r.program.items f (function_places r (file_scope r.program.items) s.scene f d h)) r.program.items s.declared s.items
+    each_function r (file_scope r.program.items) (NamesOwnVariables r) (λ f d h. own_variables r r.program.items f (of_function r (file_scope r.program.items) s.scene f d h).places) r.program.items s.declared s.items
 
 pub one_type : OneType
 one_type r resolved placed low e k h = types.one_type r (each_names_itself r resolved placed low) e k h
@@ -162,4 +162,4 @@ each_path_found r resolved placed low =
 pub are_plain : ArePlain
 are_plain r resolved placed low =
     let s = sound r resolved (own_tokens r.program placed) low in
-    each_function r (file_scope r.program.items) IsPlain (λ f d h. plain_function r (file_scope r.program.items) f h) r.program.items s.declared s.items
+    each_function r (file_scope r.program.items) IsPlain (λ f d h. plain_function r (file_scope r.program.items) s.scene f d h) r.program.items s.declared s.items

@@ -1,5 +1,5 @@
 -- In a tree at its tokens what has a type begins at a token of its own, so it is found by its tokens.
-use Rattle.sharc_ctype_laws.proofs.{Imports.{◌≡◌, ⊎_elim, ℕ, ◌+◌, ◌<◌, ◌≤◌, ◌==◌, ◌&&◌, cond, List, [], ◌∷◌, ◌++◌, map, refl, ap, sym, ◌∙◌, subst, arith, Option, Some, None, eq-eqb, ne_eqb, and_from, and_left, cases_eq, cond-false, AllByRecursion, find, Keyword, Scast, Token, TokenKind, Declaration, WrittenType, Mark, a_name, a_cast, keyword_marks, kind_marks, marks_from, name_marks, type_marks, declaration_marks, declarations_marks, marks, arguments_marks, option_marks, right_marks, simple_marks, local_marks, first_marks, head_marks, statement_marks, statements_marks, item_marks, items_marks, expressions, in_arguments, in_option, in_right, in_simple, IsPlaced, Expression, Arguments, no_arguments, argument, Right, value, malloc, Simple, assign, does_call, Local, First, nothing, declares, does, Head, Statement, Statements, no_statements, statement, Item, Program, Role, Entity, Numbered, cast_entity, casts, local_entities, first_entities, head_entities, statement_entities, statements_entities, result_of, item_entities, entities_in, positions_of, numbered_from, is_told_by, Resolution, IsFound, types_in, types_in_arguments, types_in_option, types_in_right, types_in_simple, types_in_local, types_in_first, types_in_head, types_in_statement, types_in_statements, types_in_declarations, types_in_item, types_in_items, IsNamedType, front, back, both, together}, Counts.one, OwnTokens.{one_same, one_other, one_low}}
+use Rattle.sharc_ctype_laws.proofs.{Imports.{◌≡◌, ⊎_elim, ℕ, ◌+◌, ◌<◌, ◌≤◌, ◌==◌, ◌&&◌, cond, List, [], ◌∷◌, ◌++◌, map, refl, ap, sym, ◌∙◌, subst, arith, Option, Some, None, eq-eqb, ne_eqb, and_from, and_left, cases_eq, cond-false, AllByRecursion, find, Keyword, Scast, Token, TokenKind, Declaration, WrittenType, Mark, a_name, a_cast, keyword_marks, kind_marks, marks_from, name_marks, type_marks, declaration_marks, declarations_marks, marks, arguments_marks, option_marks, right_marks, simple_marks, local_marks, first_marks, head_marks, statement_marks, statements_marks, item_marks, items_marks, expressions, in_arguments, in_option, in_right, in_simple, IsPlaced, Expression, Arguments, no_arguments, argument, Right, value, malloc, Simple, assign, does_call, Local, First, nothing, declares, does, Head, Statement, Statements, no_statements, statement, Item, Program, Role, Entity, Numbered, cast_entity, casts, local_entities, first_entities, head_entities, statement_entities, statements_entities, result_of, item_entities, entities_in, positions_of, numbered_from, is_told_by, Resolution, IsFound, types_in, types_in_arguments, types_in_option, types_in_right, types_in_simple, types_in_local, types_in_first, types_in_head, types_in_statement, types_in_statements, types_in_declarations, types_in_item, types_in_items, IsNamedType, front, back, both, together, first_locals, locals_in, locals_in_all, declarations_of, declarations_in}, Counts.{one, written}, OwnTokens.{one_same, one_other, one_low, times, one_written, none_written, locals_side, locals_behind, locals_before, found_by_token, HasOwnTokens}, Walked.AreDeclared}
 use Rattle.sharc_tree.specs.Marks.{number_of}
 use Rattle.sharc_tree.specs.Tree as tree
 use Rattle.sharc_ctype.specs.Entities.{declared}
@@ -81,101 +81,133 @@ casts-append [] b = refl
 casts-append (tree.cast s t a ∷ rest) b = ap (λ l. cast_entity s t ∷ l) (casts-append rest b)
 casts-append (_ ∷ rest) b = casts-append rest b
 
-casts_side : (t : ℕ) (a b : List Expression) (x y : List Mark) → begun t (casts a) ≤ marked t x → begun t (casts b) ≤ marked t y → begun t (casts (a ++ b)) ≤ marked t (x ++ y)
-casts_side t a b x y h k = subst (λ l. begun t l ≤ marked t (x ++ y)) (sym (casts-append a b)) (side t (casts a) (casts b) x y h k)
+-- ---- one walk: what has a type begins at a mark, its type is one that is written, and what is declared has a name there
 
-mutual
-  cast_most : (t : ℕ) (e : Expression) → begun t (casts (expressions e)) ≤ marked t (marks e)
-  cast_most t (tree.parentheses s a) = cast_most t a
-  cast_most t (tree.call s f all) = behind t (casts (in_arguments all)) (name_marks f) (arguments_marks all) (arguments_most t all)
-  cast_most t (tree.spawn s f a) = behind t (casts (expressions a)) (name_marks f) (marks a) (cast_most t a)
-  cast_most t (tree.on_value s w a) = cast_most t a
-  cast_most t (tree.on_place s w a) = cast_most t a
-  cast_most t (tree.cast s w a) = headed t (cast_entity s w) (a_cast s.first.token) (casts (expressions a)) (type_marks w ++ marks a) refl (behind t (casts (expressions a)) (type_marks w) (marks a) (cast_most t a))
-  cast_most t (tree.index s a i) = casts_side t (expressions a) (expressions i) (marks a) (marks i) (cast_most t a) (cast_most t i)
-  cast_most t (tree.field s a w n) = before t (casts (expressions a)) (marks a) (name_marks n) (cast_most t a)
-  cast_most t (tree.unary s o a) = cast_most t a
-  cast_most t (tree.binary s o at a b) = casts_side t (expressions a) (expressions b) (marks a) (marks b) (cast_most t a) (cast_most t b)
-  cast_most t _ = none_most t _
+module _ (P : WrittenType → Type 0) where
+  abbrev Q : Entity → Type 0
+  Q e = P e.written
 
-  arguments_most : (t : ℕ) (all : Arguments) → begun t (casts (in_arguments all)) ≤ marked t (arguments_marks all)
-  arguments_most t no_arguments = none_most t _
-  arguments_most t (argument a rest) = casts_side t (expressions a) (in_arguments rest) (marks a) (arguments_marks rest) (cast_most t a) (arguments_most t rest)
+  record Stand (es : List Entity) (ms : List Mark) (ws : List WrittenType) (ds : List Declaration) : Type 0 where
+    most : (t : ℕ) → begun t es ≤ marked t ms
+    types : AllByRecursion P ws → AllByRecursion Q es
+    names : (t : ℕ) → times t ds ≤ written t ms
 
-option_most : (t : ℕ) (x : Option Expression) → begun t (casts (in_option expressions x)) ≤ marked t (option_marks marks x)
-option_most t None = none_most t _
-option_most t (Some e) = cast_most t e
+  none : {ms : List Mark} {ws : List WrittenType} → Stand [] ms ws []
+  none {ms} = record { most = λ t. none_most t (marked t ms); types = λ h. tt; names = λ t. none_written t (written t ms) }
 
-right_most : (t : ℕ) (x : Right) → begun t (casts (in_right x)) ≤ marked t (right_marks x)
-right_most t (value e) = cast_most t e
-right_most t (malloc s n w) = before t (casts (in_option expressions n)) (option_marks marks n) (type_marks w) (option_most t n)
+  two : {a b : List Entity} {x y : List Mark} {u v : List WrittenType} {ds es : List Declaration} → Stand a x u ds → Stand b y v es → Stand (a ++ b) (x ++ y) (u ++ v) (ds ++ es)
+  two {a} {b} {x} {y} {u} {v} {ds} {es} one more = record {
+    most = λ t. side t a b x y (one.most t) (more.most t);
+    types = λ h. both Q a b (one.types (front P u v h)) (more.types (back P u v h));
+    names = λ t. locals_side t ds es x y (one.names t) (more.names t);
+  }
 
-rights_most : (t : ℕ) (x : Option Right) → begun t (casts (in_option in_right x)) ≤ marked t (option_marks right_marks x)
-rights_most t None = none_most t _
-rights_most t (Some x) = right_most t x
+  -- behind marks, and before marks and types
+  after : {b : List Entity} {y : List Mark} {v : List WrittenType} {ds : List Declaration} (x : List Mark) → Stand b y v ds → Stand b (x ++ y) v ds
+  after {b} {y} {v} {ds} x h = record { most = λ t. behind t b x y (h.most t); types = h.types; names = λ t. locals_behind t ds x y (h.names t) }
 
-simple_most : (t : ℕ) (x : Simple) → begun t (casts (in_simple x)) ≤ marked t (simple_marks x)
-simple_most t (assign s u x) = casts_side t (expressions u) (in_right x) (marks u) (right_marks x) (cast_most t u) (right_most t x)
-simple_most t (does_call e) = cast_most t e
+  ahead : {b : List Entity} {x : List Mark} {u : List WrittenType} {ds : List Declaration} (y : List Mark) (v : List WrittenType) → Stand b x u ds → Stand b (x ++ y) (u ++ v) ds
+  ahead {b} {x} {u} {ds} y v h = record { most = λ t. before t b x y (h.most t); types = λ all. h.types (front P u v all); names = λ t. locals_before t ds x y (h.names t) }
 
-simples_most : (t : ℕ) (x : Option Simple) → begun t (casts (in_option in_simple x)) ≤ marked t (option_marks simple_marks x)
-simples_most t None = none_most t _
-simples_most t (Some x) = simple_most t x
+  begins : {b : List Entity} {y : List Mark} {v : List WrittenType} {ds : List Declaration} (e : Entity) (m : Mark) → e.token ≡ number_of m → Stand b y v ds → Stand (e ∷ b) (m ∷ y) (e.written ∷ v) ds
+  begins {b} {y} {v} {ds} e m is h = record { most = λ t. headed t e m b y is (h.most t); types = λ all. (all.0, h.types all.1); names = λ t. locals_behind t ds (m ∷ []) y (h.names t) }
 
-declared_most : (t : ℕ) (where_ : Role) (d : Declaration) → begun t (declared where_ d ∷ []) ≤ marked t (declaration_marks d)
-declared_most t where_ d = behind t (declared where_ d ∷ []) (type_marks d.written) (name_marks d.name) (headed t (declared where_ d) (a_name d.name.site.token d.name.text) [] [] refl (none_most t _))
+  -- of casts among expressions
+  two_casts : (a b : List Expression) {x y : List Mark} {u v : List WrittenType} → Stand (casts a) x u [] → Stand (casts b) y v [] → Stand (casts (a ++ b)) (x ++ y) (u ++ v) []
+  two_casts a b {x} {y} {u} {v} one more = subst (λ l. Stand l (x ++ y) (u ++ v) []) (sym (casts-append a b)) (two one more)
 
-declarations_most : (t : ℕ) (where_ : Role) (list : List Declaration) → begun t (map (declared where_) list) ≤ marked t (declarations_marks list)
-declarations_most t where_ [] = none_most t _
-declarations_most t where_ (d ∷ rest) = side t (declared where_ d ∷ []) (map (declared where_) rest) (declaration_marks d) (declarations_marks rest) (declared_most t where_ d) (declarations_most t where_ rest)
+  mutual
+    in_expression : (e : Expression) → Stand (casts (expressions e)) (marks e) (types_in e) []
+    in_expression (tree.parentheses s a) = in_expression a
+    in_expression (tree.call s f all) = after (name_marks f) (in_all all)
+    in_expression (tree.spawn s f a) = after (name_marks f) (in_expression a)
+    in_expression (tree.on_value s w a) = in_expression a
+    in_expression (tree.on_place s w a) = in_expression a
+    in_expression (tree.cast s w a) = begins (cast_entity s w) (a_cast s.first.token) refl (after (type_marks w) (in_expression a))
+    in_expression (tree.index s a i) = two_casts (expressions a) (expressions i) (in_expression a) (in_expression i)
+    in_expression (tree.field s a w n) = record { most = λ t. before t (casts (expressions a)) (marks a) (name_marks n) ((in_expression a).most t); types = (in_expression a).types; names = λ t. none_written t (written t (marks a ++ name_marks n)) }
+    in_expression (tree.unary s o a) = in_expression a
+    in_expression (tree.binary s o at a b) = two_casts (expressions a) (expressions b) (in_expression a) (in_expression b)
+    in_expression _ = none
 
-local_most : (t : ℕ) (l : Local) → begun t (local_entities l) ≤ marked t (local_marks l)
-local_most t l = side t (declared Role.Local l.declaration ∷ []) (casts (in_option in_right l.initial)) (declaration_marks l.declaration) (option_marks right_marks l.initial) (declared_most t Role.Local l.declaration) (rights_most t l.initial)
+    in_all : (all : Arguments) → Stand (casts (in_arguments all)) (arguments_marks all) (types_in_arguments all) []
+    in_all no_arguments = none
+    in_all (argument a rest) = two_casts (expressions a) (in_arguments rest) (in_expression a) (in_all rest)
 
-first_most : (t : ℕ) (f : First) → begun t (first_entities f) ≤ marked t (first_marks f)
-first_most t nothing = none_most t _
-first_most t (declares l) = local_most t l
-first_most t (does x) = simple_most t x
+  in_test : (x : Option Expression) → Stand (casts (in_option expressions x)) (option_marks marks x) (types_in_option types_in x) []
+  in_test None = none
+  in_test (Some e) = in_expression e
 
-head_most : (t : ℕ) (h : Head) → begun t (head_entities h) ≤ marked t (head_marks h)
-head_most t h =
-    side t (first_entities h.first ++ casts (in_option expressions h.test)) (casts (in_option in_simple h.step)) (first_marks h.first ++ option_marks marks h.test) (option_marks simple_marks h.step)
-    (side t (first_entities h.first) (casts (in_option expressions h.test)) (first_marks h.first) (option_marks marks h.test) (first_most t h.first) (option_most t h.test)) (simples_most t h.step)
+  in_right_side : (x : Right) → Stand (casts (in_right x)) (right_marks x) (types_in_right x) []
+  in_right_side (value e) = in_expression e
+  in_right_side (malloc s n w) = ahead (type_marks w) (w ∷ []) (in_test n)
 
-mutual
-  statement_most : (t : ℕ) (a : Statement) → begun t (statement_entities a) ≤ marked t (statement_marks a)
-  statement_most t (tree.block s all) = statements_most t all
-  statement_most t (tree.declare s l) = local_most t l
-  statement_most t (tree.simple s x) = simple_most t x
-  statement_most t (tree.return s e) = option_most t e
-  statement_most t (tree.if_then s e a) = side t (casts (expressions e)) (statement_entities a) (marks e) (statement_marks a) (cast_most t e) (statement_most t a)
-  statement_most t (tree.if_then_else s e a b) =
-      side t (casts (expressions e) ++ statement_entities a) (statement_entities b) (marks e ++ statement_marks a) (statement_marks b)
-      (side t (casts (expressions e)) (statement_entities a) (marks e) (statement_marks a) (cast_most t e) (statement_most t a)) (statement_most t b)
-  statement_most t (tree.while s e a) = side t (casts (expressions e)) (statement_entities a) (marks e) (statement_marks a) (cast_most t e) (statement_most t a)
-  statement_most t (tree.for s h a) = side t (head_entities h) (statement_entities a) (head_marks h) (statement_marks a) (head_most t h) (statement_most t a)
-  statement_most t _ = none_most t _
+  in_initial : (x : Option Right) → Stand (casts (in_option in_right x)) (option_marks right_marks x) (types_in_option types_in_right x) []
+  in_initial None = none
+  in_initial (Some x) = in_right_side x
 
-  statements_most : (t : ℕ) (all : Statements) → begun t (statements_entities all) ≤ marked t (statements_marks all)
-  statements_most t no_statements = none_most t _
-  statements_most t (statement a rest) = side t (statement_entities a) (statements_entities rest) (statement_marks a) (statements_marks rest) (statement_most t a) (statements_most t rest)
+  in_simple_statement : (x : Simple) → Stand (casts (in_simple x)) (simple_marks x) (types_in_simple x) []
+  in_simple_statement (assign s u x) = two_casts (expressions u) (in_right x) (in_expression u) (in_right_side x)
+  in_simple_statement (does_call e) = in_expression e
 
-item_most : (t : ℕ) (i : Item) → begun t (item_entities i) ≤ marked t (item_marks i)
-item_most t (tree.structure s) = behind t (map (declared Role.Field) s.fields) (name_marks s.name) (declarations_marks s.fields) (declarations_most t Role.Field s.fields)
-item_most t (tree.global g) = declared_most t Role.Global g.declaration
-item_most t (tree.function f) =
-    side t (result_of f ∷ map (declared Role.Parameter) f.parameters) (statements_entities f.statements) (type_marks f.result ++ name_marks f.name ++ declarations_marks f.parameters) (statements_marks f.statements)
-    (side t (result_of f ∷ []) (map (declared Role.Parameter) f.parameters) (type_marks f.result ++ name_marks f.name) (declarations_marks f.parameters)
-    (behind t (result_of f ∷ []) (type_marks f.result) (name_marks f.name) (headed t (result_of f) (a_name f.name.site.token f.name.text) [] [] refl (none_most t _)))
-    (declarations_most t Role.Parameter f.parameters))
-    (statements_most t f.statements)
+  in_step : (x : Option Simple) → Stand (casts (in_option in_simple x)) (option_marks simple_marks x) (types_in_option types_in_simple x) []
+  in_step None = none
+  in_step (Some x) = in_simple_statement x
 
-items_most : (t : ℕ) (items : List Item) → begun t (entities_in items) ≤ marked t (items_marks items)
-items_most t [] = none_most t _
-items_most t (i ∷ rest) = side t (item_entities i) (entities_in rest) (item_marks i) (items_marks rest) (item_most t i) (items_most t rest)
+  in_declaration : (where_ : Role) (d : Declaration) → Stand (declared where_ d ∷ []) (declaration_marks d) (d.written ∷ []) (d ∷ [])
+  in_declaration where_ d =
+      let marked_there : Stand (declared where_ d ∷ []) (declaration_marks d) (d.written ∷ []) [] = after (type_marks d.written) (begins (declared where_ d) (a_name d.name.site.token d.name.text) refl none) in
+      record { most = marked_there.most; types = marked_there.types; names = λ t. one_written t d }
+
+  in_declarations : (where_ : Role) (list : List Declaration) → Stand (map (declared where_) list) (declarations_marks list) (types_in_declarations list) list
+  in_declarations where_ [] = none
+  in_declarations where_ (d ∷ rest) = two (in_declaration where_ d) (in_declarations where_ rest)
+
+  in_local : (l : Local) → Stand (local_entities l) (local_marks l) (types_in_local l) (l.declaration ∷ [])
+  in_local l = two (in_declaration Role.Local l.declaration) (in_initial l.initial)
+
+  in_first_part : (f : First) → Stand (first_entities f) (first_marks f) (types_in_first f) (first_locals f)
+  in_first_part nothing = none
+  in_first_part (declares l) = in_local l
+  in_first_part (does x) = in_simple_statement x
+
+  in_head : (h : Head) → Stand (head_entities h) (head_marks h) (types_in_head h) (first_locals h.first)
+  in_head h =
+      let parts = two (two (in_first_part h.first) (in_test h.test)) (in_step h.step) in
+      let first : (t : ℕ) → times t (first_locals h.first) ≤ written t (first_marks h.first ++ option_marks marks h.test) = λ t. locals_before t (first_locals h.first) (first_marks h.first) (option_marks marks h.test) ((in_first_part h.first).names t) in
+      record { most = parts.most; types = parts.types; names = λ t. locals_before t (first_locals h.first) (first_marks h.first ++ option_marks marks h.test) (option_marks simple_marks h.step) (first t) }
+
+  mutual
+    in_statement : (a : Statement) → Stand (statement_entities a) (statement_marks a) (types_in_statement a) (locals_in a)
+    in_statement (tree.block s all) = in_statements all
+    in_statement (tree.declare s l) = in_local l
+    in_statement (tree.simple s x) = in_simple_statement x
+    in_statement (tree.return s e) = in_test e
+    in_statement (tree.if_then s e a) = two (in_expression e) (in_statement a)
+    in_statement (tree.if_then_else s e a b) = two (two (in_expression e) (in_statement a)) (in_statement b)
+    in_statement (tree.while s e a) = two (in_expression e) (in_statement a)
+    in_statement (tree.for s h a) = two (in_head h) (in_statement a)
+    in_statement _ = none
+
+    in_statements : (all : Statements) → Stand (statements_entities all) (statements_marks all) (types_in_statements all) (locals_in_all all)
+    in_statements no_statements = none
+    in_statements (statement a rest) = two (in_statement a) (in_statements rest)
+
+  in_item : (i : Item) → Stand (item_entities i) (item_marks i) (types_in_item i) (declarations_of i)
+  in_item (tree.structure s) = after (name_marks s.name) (in_declarations Role.Field s.fields)
+  in_item (tree.global g) =
+      let one = in_declaration Role.Global g.declaration in
+      record { most = one.most; types = one.types; names = λ t. none_written t (written t (declaration_marks g.declaration)) }
+  in_item (tree.function f) =
+      let result : Stand (result_of f ∷ []) (type_marks f.result ++ name_marks f.name) (f.result ∷ []) [] = after (type_marks f.result) (begins (result_of f) (a_name f.name.site.token f.name.text) refl none) in
+      two (two result (in_declarations Role.Parameter f.parameters)) (in_statements f.statements)
+
+  in_items : (items : List Item) → Stand (entities_in items) (items_marks items) (types_in_items items) (declarations_in items)
+  in_items [] = none
+  in_items (i ∷ rest) = two (in_item i) (in_items rest)
 
 at_most_one : (p : Program) → IsPlaced p → (t : ℕ) → begun t (entities_in p.items) ≤ 1
-at_most_one p placed t = let e = items_most t p.items in let f = subst (λ m. marked t m ≤ 1) (sym placed.marked) (few t 0 p.tokens.list).once in omega (arith, e, f)
+at_most_one p placed t = let e = (in_items (λ w. Unit {0}) p.items).most t in let f = subst (λ m. marked t m ≤ 1) (sym placed.marked) (few t 0 p.tokens.list).once in omega (arith, e, f)
 
 -- so each is found
 
@@ -210,107 +242,11 @@ found_all k (x ∷ rest) once = (
       (found_all (k + positions_of x) rest (λ t. let o = once t in omega (arith, o))),
 )
 
--- the types that are written are those of what has one, and those after `sizeof`
-
-module _ (P : WrittenType → Type 0) where
-  abbrev Q : Entity → Type 0
-  Q e = P e.written
-
-  casts_both : (a b : List Expression) → AllByRecursion Q (casts a) → AllByRecursion Q (casts b) → AllByRecursion Q (casts (a ++ b))
-  casts_both a b h k = subst (AllByRecursion Q) (sym (casts-append a b)) (both Q (casts a) (casts b) h k)
-
-  mutual
-    cast_types : (e : Expression) → AllByRecursion P (types_in e) → AllByRecursion Q (casts (expressions e))
-    cast_types (tree.parentheses s a) h = cast_types a h
-    cast_types (tree.call s f all) h = arguments_types all h
-    cast_types (tree.spawn s f a) h = cast_types a h
-    cast_types (tree.on_value s w a) h = cast_types a h
-    cast_types (tree.on_place s w a) h = cast_types a h
-    cast_types (tree.cast s w a) h = (h.0, cast_types a h.1)
-    cast_types (tree.index s a i) h = casts_both (expressions a) (expressions i) (cast_types a (front P (types_in a) (types_in i) h)) (cast_types i (back P (types_in a) (types_in i) h))
-    cast_types (tree.field s a w n) h = cast_types a h
-    cast_types (tree.unary s o a) h = cast_types a h
-    cast_types (tree.binary s o at a b) h = casts_both (expressions a) (expressions b) (cast_types a (front P (types_in a) (types_in b) h)) (cast_types b (back P (types_in a) (types_in b) h))
-    cast_types _ h = tt
-
-    arguments_types : (all : Arguments) → AllByRecursion P (types_in_arguments all) → AllByRecursion Q (casts (in_arguments all))
-    arguments_types no_arguments h = tt
-    arguments_types (argument a rest) h = casts_both (expressions a) (in_arguments rest) (cast_types a (front P (types_in a) (types_in_arguments rest) h)) (arguments_types rest (back P (types_in a) (types_in_arguments rest) h))
-
-  option_types : (x : Option Expression) → AllByRecursion P (types_in_option types_in x) → AllByRecursion Q (casts (in_option expressions x))
-  option_types None h = tt
-  option_types (Some e) h = cast_types e h
-
-  right_types : (x : Right) → AllByRecursion P (types_in_right x) → AllByRecursion Q (casts (in_right x))
-  right_types (value e) h = cast_types e h
-  right_types (malloc s n w) h = option_types n (front P (types_in_option types_in n) (w ∷ []) h)
-
-  rights_types : (x : Option Right) → AllByRecursion P (types_in_option types_in_right x) → AllByRecursion Q (casts (in_option in_right x))
-  rights_types None h = tt
-  rights_types (Some x) h = right_types x h
-
-  simple_types : (x : Simple) → AllByRecursion P (types_in_simple x) → AllByRecursion Q (casts (in_simple x))
-  simple_types (assign s u x) h = casts_both (expressions u) (in_right x) (cast_types u (front P (types_in u) (types_in_right x) h)) (right_types x (back P (types_in u) (types_in_right x) h))
-  simple_types (does_call e) h = cast_types e h
-
-  simples_types : (x : Option Simple) → AllByRecursion P (types_in_option types_in_simple x) → AllByRecursion Q (casts (in_option in_simple x))
-  simples_types None h = tt
-  simples_types (Some x) h = simple_types x h
-
-  local_types : (l : Local) → AllByRecursion P (types_in_local l) → AllByRecursion Q (local_entities l)
-  local_types l h = (h.0, rights_types l.initial h.1)
-
-  first_types : (f : First) → AllByRecursion P (types_in_first f) → AllByRecursion Q (first_entities f)
-  first_types nothing h = tt
-  first_types (declares l) h = local_types l h
-  first_types (does x) h = simple_types x h
-
-  head_types : (x : Head) → AllByRecursion P (types_in_head x) → AllByRecursion Q (head_entities x)
-  head_types x h =
-      let a = types_in_first x.first in
-      let b = types_in_option types_in x.test in
-      let d = types_in_option types_in_simple x.step in
-      both Q (first_entities x.first ++ casts (in_option expressions x.test)) (casts (in_option in_simple x.step))
-      (both Q (first_entities x.first) (casts (in_option expressions x.test)) (first_types x.first (front P a b (front P (a ++ b) d h))) (option_types x.test (back P a b (front P (a ++ b) d h))))
-      (simples_types x.step (back P (a ++ b) d h))
-
-  mutual
-    statement_types : (a : Statement) → AllByRecursion P (types_in_statement a) → AllByRecursion Q (statement_entities a)
-    statement_types (tree.block s all) h = statements_types all h
-    statement_types (tree.declare s l) h = local_types l h
-    statement_types (tree.simple s x) h = simple_types x h
-    statement_types (tree.return s e) h = option_types e h
-    statement_types (tree.if_then s e a) h = both Q (casts (expressions e)) (statement_entities a) (cast_types e (front P (types_in e) (types_in_statement a) h)) (statement_types a (back P (types_in e) (types_in_statement a) h))
-    statement_types (tree.if_then_else s e a b) h =
-        let g = front P (types_in e ++ types_in_statement a) (types_in_statement b) h in
-        both Q (casts (expressions e) ++ statement_entities a) (statement_entities b)
-        (both Q (casts (expressions e)) (statement_entities a) (cast_types e (front P (types_in e) (types_in_statement a) g)) (statement_types a (back P (types_in e) (types_in_statement a) g)))
-        (statement_types b (back P (types_in e ++ types_in_statement a) (types_in_statement b) h))
-    statement_types (tree.while s e a) h = both Q (casts (expressions e)) (statement_entities a) (cast_types e (front P (types_in e) (types_in_statement a) h)) (statement_types a (back P (types_in e) (types_in_statement a) h))
-    statement_types (tree.for s x a) h = both Q (head_entities x) (statement_entities a) (head_types x (front P (types_in_head x) (types_in_statement a) h)) (statement_types a (back P (types_in_head x) (types_in_statement a) h))
-    statement_types _ h = tt
-
-    statements_types : (all : Statements) → AllByRecursion P (types_in_statements all) → AllByRecursion Q (statements_entities all)
-    statements_types no_statements h = tt
-    statements_types (statement a rest) h = both Q (statement_entities a) (statements_entities rest) (statement_types a (front P (types_in_statement a) (types_in_statements rest) h)) (statements_types rest (back P (types_in_statement a) (types_in_statements rest) h))
-
-  declarations_types : (where_ : Role) (list : List Declaration) → AllByRecursion P (types_in_declarations list) → AllByRecursion Q (map (declared where_) list)
-  declarations_types where_ [] h = tt
-  declarations_types where_ (d ∷ rest) h = (h.0, declarations_types where_ rest h.1)
-
-  item_types : (i : Item) → AllByRecursion P (types_in_item i) → AllByRecursion Q (item_entities i)
-  item_types (tree.structure s) h = declarations_types Role.Field s.fields h
-  item_types (tree.global g) h = h
-  item_types (tree.function f) h = both Q (result_of f ∷ map (declared Role.Parameter) f.parameters) (statements_entities f.statements)
-      (h.0, declarations_types Role.Parameter f.parameters (front P (types_in_declarations f.parameters) (types_in_statements f.statements) h.1))
-      (statements_types f.statements (back P (types_in_declarations f.parameters) (types_in_statements f.statements) h.1))
-
-  items_types : (items : List Item) → AllByRecursion P (types_in_items items) → AllByRecursion Q (entities_in items)
-  items_types [] h = tt
-  items_types (i ∷ rest) h = both Q (item_entities i) (entities_in rest) (item_types i (front P (types_in_item i) (types_in_items rest) h)) (items_types rest (back P (types_in_item i) (types_in_items rest) h))
-
 pub each_found : (r : Resolution) → IsPlaced r.program → AllByRecursion (IsNamedType r) (types_in_items r.program.items) → AllByRecursion (IsFound r) (entities_in r.program.items)
 each_found r placed named =
     together (FoundIn 0 (entities_in r.program.items)) (λ (e : Entity). IsNamedType r e.written) (IsFound r)
     (λ e w n. record { numbered = w.numbered; itself = w.itself; found = w.found; named = n }) (entities_in r.program.items)
-    (found_all 0 (entities_in r.program.items) (at_most_one r.program placed)) (items_types (IsNamedType r) r.program.items named)
+    (found_all 0 (entities_in r.program.items) (at_most_one r.program placed)) ((in_items (IsNamedType r) r.program.items).types named)
+
+pub all_declared : (r : Resolution) → HasOwnTokens r.program → AreDeclared r (declarations_in r.program.items)
+all_declared r own = found_by_token (declarations_in r.program.items) (λ t. let e = (in_items (λ w. Unit {0}) r.program.items).names t in let o = own.once t in omega (arith, e, o))

@@ -11,10 +11,8 @@ AtMost (Some m) k = m ≤ k
 
 -- an exit that leads on
 abbrev pub Joins : To → Type 0
-Joins Next = Unit {0}
-Joins Broken = Unit {0}
-Joins Continued = Unit {0}
 Joins Ends = ⊥
+Joins _ = Unit {0}
 
 pub both_yes : (a b : Bool) → Yes a → Yes b → Yes (a && b)
 both_yes true true h k = tt
@@ -51,20 +49,12 @@ most_right (Some a) None k h = absurd h
 most_right (Some a) (Some b) k h = le_trans (min-le_right a b) h
 
 min_cases : (a b : ℕ) → (min a b ≡ a) ⊎ (min a b ≡ b)
-min_cases a b = found (cases_lt a b)
-  where
-    found : (a < b) ⊎ (b ≤ a) → (min a b ≡ a) ⊎ (min a b ≡ b)
-    found (inl h) = inl (min-eq_left (omega arith))
-    found (inr h) = inr (min-eq_right h)
+min_cases a b = elim (cases_lt a b) [ inl h ↦ inl (min-eq_left (omega arith)) | inr h ↦ inr (min-eq_right h) ]
 
 pub lower_is : (o p : Option ℕ) (k : ℕ) → lower o p ≡ Some k → (o ≡ Some k) ⊎ (p ≡ Some k)
 lower_is None p k e = inr e
 lower_is (Some a) None k e = inl e
-lower_is (Some a) (Some b) k e = found (min_cases a b)
-  where
-    found : (min a b ≡ a) ⊎ (min a b ≡ b) → (Some a ≡ Some k) ⊎ (Some b ≡ Some k)
-    found (inl q) = inl (ap Some (sym q) ∙ e)
-    found (inr q) = inr (ap Some (sym q) ∙ e)
+lower_is (Some a) (Some b) k e = elim (min_cases a b) [ inl q ↦ inl (ap Some (sym q) ∙ e) | inr q ↦ inr (ap Some (sym q) ∙ e) ]
 
 pub kept_is : (c : Bool) (v : Option ℕ) (k : ℕ) → kept c v ≡ Some k → Yes c × (v ≡ Some k)
 kept_is true v k e = (tt, e)
@@ -81,25 +71,19 @@ pub most_of : (w : Way) (v : Option ℕ) (k : ℕ) → AtMost w.least k → AtMo
 most_of w v k h = most_left w.least (kept w.clear v) k h
 
 pub behind_is : (w : Way) (v : Option ℕ) (k : ℕ) → behind w v ≡ Some k → (w.least ≡ Some k) ⊎ (Yes w.clear × (v ≡ Some k))
-behind_is w v k e = found (lower_is w.least (kept w.clear v) k e)
-  where
-    found : (w.least ≡ Some k) ⊎ (kept w.clear v ≡ Some k) → (w.least ≡ Some k) ⊎ (Yes w.clear × (v ≡ Some k))
-    found (inl q) = inl q
-    found (inr q) = inr (kept_is w.clear v k q)
+behind_is w v k e = elim (lower_is w.least (kept w.clear v) k e) [ inl q ↦ inl q | inr q ↦ inr (kept_is w.clear v k q) ]
 
 -- the exits of the one and then the other
 pub then_clear : (a b : Ways) (t : To) → Yes (way (then_of a b) t).clear → (Yes a.next.clear × Yes (way b t).clear) ⊎ (Leaves t × Yes (way a t).clear)
 then_clear a b Next y = inl (yes_both a.next.clear b.next.clear y)
-then_clear a b Broken y = found (yes_either a.broken.clear (a.next.clear && b.broken.clear) y)
-  where
-    found : Yes a.broken.clear ⊎ Yes (a.next.clear && b.broken.clear) → (Yes a.next.clear × Yes b.broken.clear) ⊎ (Unit {0} × Yes a.broken.clear)
-    found (inl h) = inr (tt, h)
-    found (inr h) = inl (yes_both a.next.clear b.broken.clear h)
-then_clear a b Continued y = found (yes_either a.continued.clear (a.next.clear && b.continued.clear) y)
-  where
-    found : Yes a.continued.clear ⊎ Yes (a.next.clear && b.continued.clear) → (Yes a.next.clear × Yes b.continued.clear) ⊎ (Unit {0} × Yes a.continued.clear)
-    found (inl h) = inr (tt, h)
-    found (inr h) = inl (yes_both a.next.clear b.continued.clear h)
+then_clear a b Broken y = elim (yes_either a.broken.clear (a.next.clear && b.broken.clear) y) [
+  | inl h ↦ inr (tt, h)
+  | inr h ↦ inl (yes_both a.next.clear b.broken.clear h)
+]
+then_clear a b Continued y = elim (yes_either a.continued.clear (a.next.clear && b.continued.clear) y) [
+  | inl h ↦ inr (tt, h)
+  | inr h ↦ inl (yes_both a.next.clear b.continued.clear h)
+]
 then_clear a b Ends y = absurd y
 
 pub through_clear : (a b : Ways) (t : To) → Yes a.next.clear → Yes (way b t).clear → Yes (way (then_of a b) t).clear
@@ -121,11 +105,7 @@ pub data Came (a b : Ways) (t : To) (k : ℕ) : Type 0 where
   left : Leaves t → (way a t).least ≡ Some k → Came a b t k
 
 pub then_least : (a b : Ways) (t : To) (k : ℕ) → (way (then_of a b) t).least ≡ Some k → Came a b t k
-then_least a b Next k e = found (behind_is b.next a.next.least k e)
-  where
-    found : (b.next.least ≡ Some k) ⊎ (Yes b.next.clear × (a.next.least ≡ Some k)) → Came a b Next k
-    found (inl h) = second h
-    found (inr h) = passed h.0 h.1
+then_least a b Next k e = elim (behind_is b.next a.next.least k e) [ inl h ↦ second h | inr h ↦ passed h.0 h.1 ]
 then_least a b Broken k e = found (lower_is a.broken.least (behind b.broken a.next.least) k e)
   where
     later : (b.broken.least ≡ Some k) ⊎ (Yes b.broken.clear × (a.next.least ≡ Some k)) → Came a b Broken k

@@ -124,6 +124,4 @@ module _ (first last : ℕ) where
 
   pub out_same_goes : (t : To) → Same first last (leading (exits_to t)) (goes_to t)
   out_same_goes Next = record { does = λ x i. refl; warned = λ x i v. refl }
-  out_same_goes Broken = record { does = λ x i. refl; warned = λ x i v. refl }
-  out_same_goes Continued = record { does = λ x i. refl; warned = λ x i v. refl }
-  out_same_goes Ends = record { does = λ x i. refl; warned = λ x i v. refl }
+  out_same_goes _ = record { does = λ x i. refl; warned = λ x i v. refl }

@@ -36,15 +36,11 @@ module _ (x : ℕ) (t : To) where
   goes_clear_path Broken Broken y = record { acts = []; is_path = goes; clear = tt }
   goes_clear_path Continued Continued y = record { acts = []; is_path = goes; clear = tt }
   goes_clear_path Ends Next y = absurd y
-  goes_clear_path Ends Broken y = absurd y
-  goes_clear_path Ends Continued y = absurd y
   goes_clear_path _ _ y = absurd y
 
   joined : (u : To) → Joins u → Yes (way (goes_of u) u).clear
-  joined Next j = tt
-  joined Broken j = tt
-  joined Continued j = tt
   joined Ends j = absurd j
+  joined _ j = tt
 
   goes_is_clear : (u : To) (l : List Act) → Joins u → Goes t Start u l → Clear x l → Yes (way (goes_of t) u).clear
   goes_is_clear u l j goes c = joined t j
@@ -86,26 +82,20 @@ pub record Suits (x : ℕ) (a : Act) (w : Way) (ww : Warns) : Type 0 where
 module _ (x : ℕ) (a : Act) (w : Way) (ww : Warns) (su : Suits x a w ww) where
   does_clear_path : (u : To) → Yes (way (only w) u).clear → ClearPath x (Does a) u
   does_clear_path Next y = record { acts = a ∷ []; is_path = done; clear = (su.spares y, tt) }
-  does_clear_path Broken y = absurd y
-  does_clear_path Continued y = absurd y
-  does_clear_path Ends y = absurd y
+  does_clear_path _ y = absurd y
 
   does_is_clear : (u : To) (l : List Act) → Joins u → Does a Start u l → Clear x l → Yes (way (only w) u).clear
   does_is_clear u l j done c = su.is_clear c.0
-  does_is_clear u l j ended c = absurd j
-  does_is_clear u l j not_yet c = absurd j
+  does_is_clear u l j _ c = absurd j
 
   does_standing_path : (u : To) (k : ℕ) → (way (only w) u).least ≡ Some k → StandingPath x (Does a) u k
   does_standing_path Next k e = record { acts = a ∷ []; is_path = done; stands = inl (su.nulls k e, tt) }
-  does_standing_path Broken k e = absurd (cc)
-  does_standing_path Continued k e = absurd (cc)
-  does_standing_path Ends k e = absurd (cc)
+  does_standing_path _ k e = absurd (cc)
 
   does_is_standing : (f : From) (u : To) (l : List Act) (k : ℕ) → Joins u → Does a f u l → NullingStands x k l → AtMost (way (only w) u).least k
   does_is_standing f u l k j done (inl s) = su.is_null k s.0
   does_is_standing f u l k j done (inr s) = absurd s
-  does_is_standing f u l k j ended s = absurd j
-  does_is_standing f u l k j not_yet s = absurd j
+  does_is_standing f u l k j _ s = absurd j
 
   does_warned_path : (v : Option ℕ) (k r : ℕ) → Contains (ww v) (warning r k) → Reaches (Does a) x k r ⊎ ((v ≡ Some k) × ShownPath x (Does a) r)
   does_warned_path v k r c = let h = su.warns v k r c in inr (h.0, record { acts = a ∷ []; is_path = ended; shows = inl h.1 })
@@ -115,18 +105,16 @@ module _ (x : ℕ) (a : Act) (w : Way) (ww : Warns) (su : Suits x a w ww) where
   no_hit k r (inr h) = h
 
   does_is_hit : (f : From) (u : To) (l : List Act) (v : Option ℕ) (k r : ℕ) → Does a f u l → Hits x k r l → Warned (ww v) k r
-  does_is_hit f u l v k r done h = absurd (no_hit k r h)
-  does_is_hit f u l v k r ended h = absurd (no_hit k r h)
   does_is_hit f u l v k r not_yet h = absurd h
+  does_is_hit f u l v k r _ h = absurd (no_hit k r h)
 
   one_shown : (v : Option ℕ) (k r : ℕ) → Shows x r (a ∷ []) → AtMost v k → Warned (ww v) k r
   one_shown v k r (inl h) most = su.is_read v k r h most
   one_shown v k r (inr h) most = absurd h.1
 
   does_is_shown : (u : To) (l : List Act) (v : Option ℕ) (k r : ℕ) → Does a Start u l → Shows x r l → AtMost v k → Warned (ww v) k r
-  does_is_shown u l v k r done h most = one_shown v k r h most
-  does_is_shown u l v k r ended h most = one_shown v k r h most
   does_is_shown u l v k r not_yet h most = absurd h
+  does_is_shown u l v k r _ h most = one_shown v k r h most
 
   pub exact_does : Exact x (Does a) (only w) ww
   exact_does = record {

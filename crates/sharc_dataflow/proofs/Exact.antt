@@ -46,11 +46,10 @@ warned_right a b k r h = record { since = h.since; first = h.first; has = Contai
 -- the one and then the other
 module _ (x : ℕ) (A B : Piece) (a b : Ways) (wa wb : Warns) (ea : Exact x A a wa) (eb : Exact x B b wb) where
   then_clear_path : (t : To) → Yes (way (then_of a b) t).clear → ClearPath x (Then A B) t
-  then_clear_path t y = found (then_clear a b t y)
-    where
-      found : (Yes a.next.clear × Yes (way b t).clear) ⊎ (Leaves t × Yes (way a t).clear) → ClearPath x (Then A B) t
-      found (inl h) = let p = ea.clear_path Next h.0 in let q = eb.clear_path t h.1 in record { acts = p.acts ++ q.acts; is_path = through p.is_path q.is_path; clear = clear_both x p.acts q.acts p.clear q.clear }
-      found (inr h) = let p = ea.clear_path t h.1 in record { acts = p.acts; is_path = leaves h.0 p.is_path; clear = p.clear }
+  then_clear_path t y = elim (then_clear a b t y) [
+    | inl h ↦ let p = ea.clear_path Next h.0 in let q = eb.clear_path t h.1 in record { acts = p.acts ++ q.acts; is_path = through p.is_path q.is_path; clear = clear_both x p.acts q.acts p.clear q.clear }
+    | inr h ↦ let p = ea.clear_path t h.1 in record { acts = p.acts; is_path = leaves h.0 p.is_path; clear = p.clear }
+  ]
 
   then_is_clear : (t : To) (l : List Act) → Joins t → Then A B Start t l → Clear x l → Yes (way (then_of a b) t).clear
   then_is_clear t l j (through {l = l1} {m = m} p q) c = through_clear a b t (ea.is_clear Next l1 tt p (clear_first x l1 m c)) (eb.is_clear t m j q (clear_last x l1 m c))
@@ -65,11 +64,10 @@ module _ (x : ℕ) (A B : Piece) (a b : Ways) (wa wb : Warns) (ea : Exact x A a 
       found (came_left out h) = let p = ea.standing_path t k h in record { acts = p.acts; is_path = leaves out p.is_path; stands = p.stands }
 
   then_is_standing : (f : From) (t : To) (l : List Act) (k : ℕ) → Joins t → Then A B f t l → NullingStands x k l → AtMost (way (then_of a b) t).least k
-  then_is_standing f t l k j (through {l = l1} {m = m} p q) s = found (stands_cases x k l1 m s)
-    where
-      found : (NullingStands x k l1 × Clear x m) ⊎ NullingStands x k m → AtMost (way (then_of a b) t).least k
-      found (inl h) = through_most a b t k (ea.is_standing f Next l1 k tt p h.0) (eb.is_clear t m j q h.1)
-      found (inr h) = second_most a b t k (eb.is_standing Start t m k j q h)
+  then_is_standing f t l k j (through {l = l1} {m = m} p q) s = elim (stands_cases x k l1 m s) [
+    | inl h ↦ through_most a b t k (ea.is_standing f Next l1 k tt p h.0) (eb.is_clear t m j q h.1)
+    | inr h ↦ second_most a b t k (eb.is_standing Start t m k j q h)
+  ]
   then_is_standing f t l k j (leaves out p) s = left_most a b t k out (ea.is_standing f t l k j p s)
   then_is_standing f t l k j (late p) s = second_most a b t k (eb.is_standing Inside t l k j p s)
 
@@ -124,11 +122,10 @@ module _ (x : ℕ) (A B : Piece) (a b : Ways) (wa wb : Warns) (ea : Exact x A a 
   then_is_hit f t l v k r (late p) h = in_b v k r (eb.is_hit Inside t l (behind a.next v) k r p h)
 
   then_is_shown : (t : To) (l : List Act) (v : Option ℕ) (k r : ℕ) → Then A B Start t l → Shows x r l → AtMost v k → Warned (warn_then a wa wb v) k r
-  then_is_shown t l v k r (through {l = l1} {m = m} p q) h most = found (shows_cases x r l1 m h)
-    where
-      found : Shows x r l1 ⊎ (Clear x l1 × Shows x r m) → Warned (warn_then a wa wb v) k r
-      found (inl c) = in_a v k r (ea.is_shown Next l1 v k r p c most)
-      found (inr c) = in_b v k r (eb.is_shown t m (behind a.next v) k r q c.1 (most_behind a.next v k (ea.is_clear Next l1 tt p c.0) most))
+  then_is_shown t l v k r (through {l = l1} {m = m} p q) h most = elim (shows_cases x r l1 m h) [
+    | inl c ↦ in_a v k r (ea.is_shown Next l1 v k r p c most)
+    | inr c ↦ in_b v k r (eb.is_shown t m (behind a.next v) k r q c.1 (most_behind a.next v k (ea.is_clear Next l1 tt p c.0) most))
+  ]
   then_is_shown t l v k r (leaves out p) h most = in_a v k r (ea.is_shown t l v k r p h most)
 
   pub exact_then : Exact x (Then A B) (then_of a b) (warn_then a wa wb)

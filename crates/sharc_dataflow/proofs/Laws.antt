@@ -10,16 +10,14 @@ lower_same None = refl
 lower_same (Some a) = ap Some (omega arith)
 
 pub lower_turned : (o p : Option ℕ) → lower o p ≡ lower p o
-lower_turned None None = refl
 lower_turned None (Some b) = refl
-lower_turned (Some a) None = refl
 lower_turned (Some a) (Some b) = ap Some (omega arith)
+lower_turned None None = refl
+lower_turned (Some a) None = refl
 
 pub lower_assoc : (o p q : Option ℕ) → lower (lower o p) q ≡ lower o (lower p q)
-lower_assoc None p q = refl
-lower_assoc (Some a) None q = refl
-lower_assoc (Some a) (Some b) None = refl
 lower_assoc (Some a) (Some b) (Some d) = ap Some (omega arith)
+lower_assoc _ _ _ = refl
 
 and_true : (b : Bool) → b && true ≡ b
 and_true true = refl

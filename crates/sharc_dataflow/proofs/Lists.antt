@@ -22,11 +22,7 @@ module _ (x : ℕ) where
   pub stands_cases : (k : ℕ) (l m : List Act) → NullingStands x k (l ++ m) → (NullingStands x k l × Clear x m) ⊎ NullingStands x k m
   stands_cases k [] m h = inr h
   stands_cases k (a ∷ l) m (inl h) = inl (inl (h.0, clear_first l m h.1), clear_last l m h.1)
-  stands_cases k (a ∷ l) m (inr h) = later (stands_cases k l m h)
-    where
-      later : (NullingStands x k l × Clear x m) ⊎ NullingStands x k m → (NullingStands x k (a ∷ l) × Clear x m) ⊎ NullingStands x k m
-      later (inl c) = inl (inr c.0, c.1)
-      later (inr c) = inr c
+  stands_cases k (a ∷ l) m (inr h) = elim (stands_cases k l m h) [ inl c ↦ inl (inr c.0, c.1) | inr c ↦ inr c ]
 
   pub shows_behind : (r : ℕ) (l m : List Act) → Clear x l → Shows x r m → Shows x r (l ++ m)
   shows_behind r [] m c h = h
@@ -54,11 +50,7 @@ module _ (x : ℕ) where
 
   pub hits_cases : (k r : ℕ) (l m : List Act) → Hits x k r (l ++ m) → Split k r l m
   hits_cases k r [] m h = last h
-  hits_cases k r (a ∷ l) m (inl h) = begun (shows_cases r l m h.1)
-    where
-      begun : Shows x r l ⊎ (Clear x l × Shows x r m) → Split k r (a ∷ l) m
-      begun (inl c) = first (inl (h.0, c))
-      begun (inr c) = across (inl (h.0, c.0)) c.1
+  hits_cases k r (a ∷ l) m (inl h) = elim (shows_cases r l m h.1) [ inl c ↦ first (inl (h.0, c)) | inr c ↦ across (inl (h.0, c.0)) c.1 ]
   hits_cases k r (a ∷ l) m (inr h) = later (hits_cases k r l m h)
     where
       later : Split k r l m → Split k r (a ∷ l) m

@@ -8,11 +8,7 @@ NullIn x (a ∷ l) = ((k : ℕ) × (a ≡ Nulls x k)) ⊎ NullIn x l
 null_cases : (x : ℕ) (l m : List Act) → NullIn x (l ++ m) → NullIn x l ⊎ NullIn x m
 null_cases x [] m h = inr h
 null_cases x (a ∷ l) m (inl h) = inl (inl h)
-null_cases x (a ∷ l) m (inr h) = later (null_cases x l m h)
-  where
-    later : NullIn x l ⊎ NullIn x m → NullIn x (a ∷ l) ⊎ NullIn x m
-    later (inl i) = inl (inr i)
-    later (inr i) = inr i
+null_cases x (a ∷ l) m (inr h) = elim (null_cases x l m h) [ inl i ↦ inl (inr i) | inr i ↦ inr i ]
 
 pub hit_nulls : (x k r : ℕ) (l : List Act) → Hits x k r l → NullIn x l
 hit_nulls x k r [] h = h
@@ -42,16 +38,11 @@ module _ (x : ℕ) where
   in_goes t f u l before h = h
 
   in_does : (a : Act) (f : From) (u : To) (l : List Act) → Does a f u l → NullIn x l → InSteps (step_of a ∷ [])
-  in_does a f u l done h = in_act a h
-  in_does a f u l ended h = in_act a h
   in_does a f u l not_yet h = absurd h
+  in_does a f u l _ h = in_act a h
 
   in_then : (A B : Piece) (X : Type 0) → ((f : From) (t : To) (l : List Act) → A f t l → NullIn x l → X) → ((f : From) (t : To) (l : List Act) → B f t l → NullIn x l → X) → (f : From) (t : To) (l : List Act) → Then A B f t l → NullIn x l → X
-  in_then A B X ia ib f t l (through {l = l1} {m = m} p q) h = found (null_cases x l1 m h)
-    where
-      found : NullIn x l1 ⊎ NullIn x m → X
-      found (inl i) = ia f Next l1 p i
-      found (inr i) = ib Start t m q i
+  in_then A B X ia ib f t l (through {l = l1} {m = m} p q) h = elim (null_cases x l1 m h) [ inl i ↦ ia f Next l1 p i | inr i ↦ ib Start t m q i ]
   in_then A B X ia ib f t l (leaves w p) h = ia f t l p h
   in_then A B X ia ib f t l (behind q) h = ib _ t l q h
 

@@ -17,14 +17,8 @@ module _ (first last : ℕ) where
   -- code of which no step is written down only goes on
   nothing_same : (c : Code) → listing c ≡ [] → Same first last c (goes_to Next)
   nothing_same (goes_to Next) e = same_self first last (goes_to Next)
-  nothing_same (goes_to Broken) e = absurd (cc)
-  nothing_same (goes_to Continued) e = absurd (cc)
-  nothing_same (goes_to Ends) e = absurd (cc)
-  nothing_same (acts a) e = absurd (cc)
   nothing_same (first_then a b) e = same_then_same first last (same_then first last (nothing_same a (left_nil (listing a) (listing b) e)) (nothing_same b (right_nil (listing a) (listing b) e))) (start_same first last (goes_to Next))
-  nothing_same (one_of a b) e = absurd (cc)
-  nothing_same (catches a) e = absurd (cc)
-  nothing_same (repeats a) e = absurd (cc)
+  nothing_same _ e = absurd (cc)
 
   -- what is kept stands for code that is the same as c
   pub record Means (k : Kept) (c : Code) : Type 0 where

@@ -13,9 +13,8 @@ Sorted [] = Unit {0}
 Sorted (a ∷ l) = AllBefore a l × Sorted l
 
 abbrev Chain : List FlowWarning → Type 0
-Chain [] = Unit {0}
-Chain (a ∷ []) = Unit {0}
 Chain (a ∷ (b ∷ l)) = Before a b × Chain (b ∷ l)
+Chain _ = Unit {0}
 
 before_trans : (a b c : FlowWarning) → Before a b → Before b c → Before a c
 before_trans a b c (inl h) (inl i) = inl (omega arith)
@@ -43,24 +42,19 @@ not_after : (a b : FlowWarning) → is_lt (by_read (read_and_since b) (read_and_
 not_after a b e = later b.read a.read b.since a.since (nat_lt b.read a.read) (b.read == a.read) (nat_lt b.since a.since) refl refl refl e
 
 chained : (l : List FlowWarning) → IsSortedByKey read_and_since by_read l → Chain l
-chained [] h = tt
-chained (a ∷ []) h = tt
 chained (a ∷ (b ∷ l)) h = (not_after a b (h 0 a (omega arith) (omega arith)), chained (b ∷ l) (λ k d low high. shifted k d (h (suc k) d (omega arith) (omega arith))))
   where
     shifted : (k : ℕ) (d : FlowWarning) → is_lt (by_read (read_and_since (slice_index_or (a ∷ (b ∷ l)) (suc k + 1) d)) (read_and_since (slice_index_or (a ∷ (b ∷ l)) (suc k) d))) ≡ false
         → is_lt (by_read (read_and_since (slice_index_or (b ∷ l) (k + 1) d)) (read_and_since (slice_index_or (b ∷ l) k d))) ≡ false
     shifted k d e = let n : suc k + 1 ≡ suc (k + 1) = omega arith in subst (λ j. is_lt (by_read (read_and_since (slice_index_or (a ∷ (b ∷ l)) j d)) (read_and_since (slice_index_or (b ∷ l) k d))) ≡ false) n e
+chained _ h = tt
 
 is_read_same : (p : Option ℕ) (r : ℕ) → is_read p r ≡ true → p ≡ Some r
 is_read_same None r e = absurd (cc)
 is_read_same (Some q) r e = let s : q ≡ r = grind (arith, nat_tests, e) in ap Some s
 
 from_cons : (a w : FlowWarning) (l : List FlowWarning) → Contains (a ∷ l) w → (a ≡ w) ⊎ Contains l w
-from_cons a w l h = found (Contains-append_cases (a ∷ []) l w h)
-  where
-    found : Contains (a ∷ []) w ⊎ Contains l w → (a ≡ w) ⊎ Contains l w
-    found (inl i) = inl (one_is a w i)
-    found (inr i) = inr i
+from_cons a w l h = elim (Contains-append_cases (a ∷ []) l w h) [ inl i ↦ inl (one_is a w i) | inr i ↦ inr i ]
 
 in_tail : (a w : FlowWarning) (l : List FlowWarning) → Contains l w → Contains (a ∷ l) w
 in_tail a w l h = Contains-append_right (a ∷ []) l w h
@@ -74,11 +68,7 @@ kept_from p (a ∷ l) w h = found (is_read p a.read) (kept_from p l w) (kept_fro
   where
     found : (b : Bool) → (Contains (first_each p l) w → Contains l w) → (Contains (first_each (Some a.read) l) w → Contains l w) → Contains (if b then first_each p l else a ∷ first_each (Some a.read) l) w → Contains (a ∷ l) w
     found true one two i = in_tail a w l (one i)
-    found false one two i = split (from_cons a w (first_each (Some a.read) l) i)
-      where
-        split : (a ≡ w) ⊎ Contains (first_each (Some a.read) l) w → Contains (a ∷ l) w
-        split (inl e) = subst (Contains (a ∷ l)) e (in_head a l)
-        split (inr j) = in_tail a w l (two j)
+    found false one two i = elim (from_cons a w (first_each (Some a.read) l) i) [ inl e ↦ subst (Contains (a ∷ l)) e (in_head a l) | inr j ↦ in_tail a w l (two j) ]
 
 before_in : (a b : FlowWarning) (l : List FlowWarning) → AllBefore a l → Contains l b → Before a b
 before_in a b [] s h = absurd (omega (arith, h.1))
@@ -144,9 +134,8 @@ rises p (a ∷ l) s f = found (is_read p a.read) refl (rises p l s.1 f.1) (rises
     found false e one two = (is_above p a.read f.0 e, two)
 
 rising_is : (p : Option ℕ) (l : List FlowWarning) → RisingFrom p l → Rising l
-rising_is p [] h = tt
-rising_is p (a ∷ []) h = tt
 rising_is p (a ∷ (b ∷ l)) h = (h.1.0, rising_is (Some a.read) (b ∷ l) h.1)
+rising_is p _ h = tt
 
 pub are_firsts : (found sorted : List FlowWarning) → IsInOrder found sorted → AreFirsts found (first_each None sorted)
 are_firsts found sorted h =

@@ -4,22 +4,20 @@ use Rattle.sharc_dataflow.proofs.{Imports.{◌≡◌, ℕ, List, ◌++◌, ◌�
 -- the one or the other
 module _ (x : ℕ) (A B : Piece) (a b : Ways) (wa wb : Warns) (ea : Exact x A a wa) (eb : Exact x B b wb) where
   or_clear_path : (t : To) → Yes (way (either_of a b) t).clear → ClearPath x (Either A B) t
-  or_clear_path t y = found (either_clear a b t y)
-    where
-      found : Yes (way a t).clear ⊎ Yes (way b t).clear → ClearPath x (Either A B) t
-      found (inl h) = let p = ea.clear_path t h in record { acts = p.acts; is_path = inl p.is_path; clear = p.clear }
-      found (inr h) = let p = eb.clear_path t h in record { acts = p.acts; is_path = inr p.is_path; clear = p.clear }
+  or_clear_path t y = elim (either_clear a b t y) [
+    | inl h ↦ let p = ea.clear_path t h in record { acts = p.acts; is_path = inl p.is_path; clear = p.clear }
+    | inr h ↦ let p = eb.clear_path t h in record { acts = p.acts; is_path = inr p.is_path; clear = p.clear }
+  ]
 
   or_is_clear : (t : To) (l : List Act) → Joins t → Either A B Start t l → Clear x l → Yes (way (either_of a b) t).clear
   or_is_clear t l j (inl p) c = clear_left a b t (ea.is_clear t l j p c)
   or_is_clear t l j (inr p) c = clear_right a b t (eb.is_clear t l j p c)
 
   or_standing_path : (t : To) (k : ℕ) → (way (either_of a b) t).least ≡ Some k → StandingPath x (Either A B) t k
-  or_standing_path t k e = found (either_least a b t k e)
-    where
-      found : ((way a t).least ≡ Some k) ⊎ ((way b t).least ≡ Some k) → StandingPath x (Either A B) t k
-      found (inl h) = let p = ea.standing_path t k h in record { acts = p.acts; is_path = inl p.is_path; stands = p.stands }
-      found (inr h) = let p = eb.standing_path t k h in record { acts = p.acts; is_path = inr p.is_path; stands = p.stands }
+  or_standing_path t k e = elim (either_least a b t k e) [
+    | inl h ↦ let p = ea.standing_path t k h in record { acts = p.acts; is_path = inl p.is_path; stands = p.stands }
+    | inr h ↦ let p = eb.standing_path t k h in record { acts = p.acts; is_path = inr p.is_path; stands = p.stands }
+  ]
 
   or_is_standing : (f : From) (t : To) (l : List Act) (k : ℕ) → Joins t → Either A B f t l → NullingStands x k l → AtMost (way (either_of a b) t).least k
   or_is_standing f t l k j (inl p) s = either_left a b t k (ea.is_standing f t l k j p s)
@@ -68,51 +66,44 @@ module _ (x : ℕ) (A : Piece) (a : Ways) (wa : Warns) (ea : Exact x A a wa) whe
   plain_stands t k p = record { acts = p.acts; is_path = as_is p.is_path; stands = p.stands }
 
   caught_clear_path : (t : To) → Yes (way (caught_of a) t).clear → ClearPath x (Caught A) t
-  caught_clear_path Next y = found (yes_either a.next.clear a.continued.clear y)
-    where
-      found : Yes a.next.clear ⊎ Yes a.continued.clear → ClearPath x (Caught A) Next
-      found (inl h) = plain_clear Next (ea.clear_path Next h)
-      found (inr h) = let p = ea.clear_path Continued h in record { acts = p.acts; is_path = on p.is_path; clear = p.clear }
+  caught_clear_path Next y = elim (yes_either a.next.clear a.continued.clear y) [
+    | inl h ↦ plain_clear Next (ea.clear_path Next h)
+    | inr h ↦ let p = ea.clear_path Continued h in record { acts = p.acts; is_path = on p.is_path; clear = p.clear }
+  ]
   caught_clear_path Broken y = plain_clear Broken (ea.clear_path Broken y)
   caught_clear_path Continued y = plain_clear Continued (ea.clear_path Continued y)
   caught_clear_path Ends y = absurd y
 
   kept_clear : (t : To) → Yes (way a t).clear → Yes (way (caught_of a) t).clear
   kept_clear Next y = yes_left a.next.clear a.continued.clear y
-  kept_clear Broken y = y
-  kept_clear Continued y = y
-  kept_clear Ends y = y
+  kept_clear _ y = y
 
   caught_is_clear : (t : To) (l : List Act) → Joins t → Caught A Start t l → Clear x l → Yes (way (caught_of a) t).clear
   caught_is_clear t l j (on p) c = yes_right a.next.clear a.continued.clear (ea.is_clear Continued l tt p c)
   caught_is_clear t l j (as_is p) c = kept_clear t (ea.is_clear t l j p c)
 
   caught_standing_path : (t : To) (k : ℕ) → (way (caught_of a) t).least ≡ Some k → StandingPath x (Caught A) t k
-  caught_standing_path Next k e = found (lower_is a.next.least a.continued.least k e)
-    where
-      found : (a.next.least ≡ Some k) ⊎ (a.continued.least ≡ Some k) → StandingPath x (Caught A) Next k
-      found (inl h) = plain_stands Next k (ea.standing_path Next k h)
-      found (inr h) = let p = ea.standing_path Continued k h in record { acts = p.acts; is_path = on p.is_path; stands = p.stands }
+  caught_standing_path Next k e = elim (lower_is a.next.least a.continued.least k e) [
+    | inl h ↦ plain_stands Next k (ea.standing_path Next k h)
+    | inr h ↦ let p = ea.standing_path Continued k h in record { acts = p.acts; is_path = on p.is_path; stands = p.stands }
+  ]
   caught_standing_path Broken k e = plain_stands Broken k (ea.standing_path Broken k e)
   caught_standing_path Continued k e = plain_stands Continued k (ea.standing_path Continued k e)
   caught_standing_path Ends k e = absurd (cc)
 
   kept_most : (t : To) (k : ℕ) → AtMost (way a t).least k → AtMost (way (caught_of a) t).least k
   kept_most Next k h = most_left a.next.least a.continued.least k h
-  kept_most Broken k h = h
-  kept_most Continued k h = h
-  kept_most Ends k h = h
+  kept_most _ k h = h
 
   caught_is_standing : (f : From) (t : To) (l : List Act) (k : ℕ) → Joins t → Caught A f t l → NullingStands x k l → AtMost (way (caught_of a) t).least k
   caught_is_standing f t l k j (on p) s = most_right a.next.least a.continued.least k (ea.is_standing f Continued l k tt p s)
   caught_is_standing f t l k j (as_is p) s = kept_most t k (ea.is_standing f t l k j p s)
 
   caught_warned_path : (v : Option ℕ) (k r : ℕ) → Contains (wa v) (warning r k) → Reaches (Caught A) x k r ⊎ ((v ≡ Some k) × ShownPath x (Caught A) r)
-  caught_warned_path v k r c = found (ea.warned_path v k r c)
-    where
-      found : Reaches A x k r ⊎ ((v ≡ Some k) × ShownPath x A r) → Reaches (Caught A) x k r ⊎ ((v ≡ Some k) × ShownPath x (Caught A) r)
-      found (inl h) = inl (record { acts = h.acts; is_path = as_is h.is_path; hits = h.hits })
-      found (inr h) = inr (h.0, record { acts = h.1.acts; is_path = as_is h.1.is_path; shows = h.1.shows })
+  caught_warned_path v k r c = elim (ea.warned_path v k r c) [
+    | inl h ↦ inl (record { acts = h.acts; is_path = as_is h.is_path; hits = h.hits })
+    | inr h ↦ inr (h.0, record { acts = h.1.acts; is_path = as_is h.1.is_path; shows = h.1.shows })
+  ]
 
   caught_is_hit : (f : From) (t : To) (l : List Act) (v : Option ℕ) (k r : ℕ) → Caught A f t l → Hits x k r l → Warned (wa v) k r
   caught_is_hit f t l v k r (on p) h = ea.is_hit f Continued l v k r p h
@@ -137,9 +128,7 @@ module _ (x : ℕ) (A : Piece) (a : Ways) (wa : Warns) (ea : Exact x A a wa) whe
 module _ (x : ℕ) (A : Piece) (a : Ways) (wa : Warns) (ea : Exact x A a wa) where
   loop_clear_path : (t : To) → Yes (way (loop_of a) t).clear → ClearPath x (Loop A) t
   loop_clear_path Next y = let p = ea.clear_path Broken y in record { acts = p.acts; is_path = left p.is_path; clear = p.clear }
-  loop_clear_path Broken y = absurd y
-  loop_clear_path Continued y = absurd y
-  loop_clear_path Ends y = absurd y
+  loop_clear_path _ y = absurd y
 
   loop_is_clear : (t : To) (l : List Act) → Joins t → Loop A Start t l → Clear x l → Yes (way (loop_of a) t).clear
   loop_is_clear t l j (left p) c = ea.is_clear Broken l tt p c
@@ -147,20 +136,15 @@ module _ (x : ℕ) (A : Piece) (a : Ways) (wa : Warns) (ea : Exact x A a wa) whe
   loop_is_clear t l j (again {l = l1} {m = m} p q) c = loop_is_clear t m j q (clear_last x l1 m c)
 
   loop_standing_path : (t : To) (k : ℕ) → (way (loop_of a) t).least ≡ Some k → StandingPath x (Loop A) t k
-  loop_standing_path Next k e = found (behind_is a.broken a.next.least k e)
-    where
-      found : (a.broken.least ≡ Some k) ⊎ (Yes a.broken.clear × (a.next.least ≡ Some k)) → StandingPath x (Loop A) Next k
-      found (inl h) = let p = ea.standing_path Broken k h in record { acts = p.acts; is_path = left p.is_path; stands = p.stands }
-      found (inr h) = let p = ea.standing_path Next k h.1 in let q = ea.clear_path Broken h.0 in record { acts = p.acts ++ q.acts; is_path = again p.is_path (left q.is_path); stands = stands_on x k p.acts q.acts p.stands q.clear }
-  loop_standing_path Broken k e = absurd (cc)
-  loop_standing_path Continued k e = absurd (cc)
-  loop_standing_path Ends k e = absurd (cc)
+  loop_standing_path Next k e = elim (behind_is a.broken a.next.least k e) [
+    | inl h ↦ let p = ea.standing_path Broken k h in record { acts = p.acts; is_path = left p.is_path; stands = p.stands }
+    | inr h ↦ let p = ea.standing_path Next k h.1 in let q = ea.clear_path Broken h.0 in record { acts = p.acts ++ q.acts; is_path = again p.is_path (left q.is_path); stands = stands_on x k p.acts q.acts p.stands q.clear }
+  ]
+  loop_standing_path _ k e = absurd (cc)
 
   crossed : (t : To) (k : ℕ) → AtMost a.next.least k → Yes (way (loop_of a) t).clear → AtMost (way (loop_of a) t).least k
   crossed Next k h y = most_behind a.broken a.next.least k y h
-  crossed Broken k h y = absurd y
-  crossed Continued k h y = absurd y
-  crossed Ends k h y = absurd y
+  crossed _ k h y = absurd y
 
   loop_is_standing : (f : From) (t : To) (l : List Act) (k : ℕ) → Joins t → Loop A f t l → NullingStands x k l → AtMost (way (loop_of a) t).least k
   loop_is_standing f t l k j (left p) s = most_of a.broken a.next.least k (ea.is_standing f Broken l k tt p s)

@@ -2,14 +2,12 @@
 use Rattle.sharc_dataflow.proofs.{Imports.{◌≡◌, ℕ, List, [], ◌∷◌, ◌++◌, Option, refl, ap, sym, ◌∙◌, append_assoc, append-nil, Step, Way, Ways, Reads, Nulls, Writes, Next, Broken, Continued, Ends, Code, goes_to, acts, first_then, one_of, catches, repeats, listing, follow, either, then_of, either_of, caught_of, loop_of, ways, last_or, front, heads, Summing, summing, nothing, back, summed}, Laws.{follow_free, free_follow, follow_closed, follow_assoc, follow_either, either_assoc, either_closed}}
 
 pub last_pushed : {A : Type 0} (d a : A) (l : List A) → last_or d (l ++ a ∷ []) ≡ a
-last_pushed d a [] = refl
-last_pushed d a (b ∷ []) = refl
 last_pushed d a (b ∷ (c ∷ l)) = last_pushed d a (c ∷ l)
+last_pushed d a _ = refl
 
 pub front_pushed : {A : Type 0} (a : A) (l : List A) → front (l ++ a ∷ []) ≡ l
-front_pushed a [] = refl
-front_pushed a (b ∷ []) = refl
 front_pushed a (b ∷ (c ∷ l)) = ap (λ z. b ∷ z) (front_pushed a (c ∷ l))
+front_pushed a _ = refl
 
 abbrev pub ways_of : Way → Way → Way → Ways
 ways_of n b c = record { next = n; broken = b; continued = c }
@@ -74,11 +72,9 @@ module _ (x : ℕ) where
       (ap (λ (z : Ways). (s.heads ++ heads x a) ++ z.next.least ∷ []) (then_nothing (ways x a)) ∙ append_assoc s.heads (heads x a) ((ways x a).next.least ∷ []))
 
   pub summed_piece : (c : Code) (rest : List Step) (s : Summing) → summed x (listing c ++ rest) s ≡ with_piece x c (summed x rest s)
-  summed_piece (goes_to Next) rest s = unchanged (summed x rest s)
   summed_piece (goes_to Broken) rest s = no_heads x (ways x (goes_to Broken)) (summed x rest s)
   summed_piece (goes_to Continued) rest s = no_heads x (ways x (goes_to Continued)) (summed x rest s)
   summed_piece (goes_to Ends) rest s = no_heads x (ways x (goes_to Ends)) (summed x rest s)
-  summed_piece (acts (Reads y r)) rest s = unchanged (summed x rest s)
   summed_piece (acts (Nulls y k)) rest s = no_heads x (ways x (acts (Nulls y k))) (summed x rest s)
   summed_piece (acts (Writes y)) rest s = no_heads x (ways x (acts (Writes y))) (summed x rest s)
   summed_piece (first_then a b) rest s =
@@ -94,3 +90,4 @@ module _ (x : ℕ) where
       ap (λ z. summed x z s) (regroup Step.Catch Step.Caught (listing a) rest) ∙ ap (back x Step.Catch) (summed_piece a (Step.Caught ∷ rest) s) ∙ caught_back a (summed x rest s)
   summed_piece (repeats a) rest s =
       ap (λ z. summed x z s) (regroup Step.Head Step.Again (listing a) rest) ∙ ap (back x Step.Head) (summed_piece a (Step.Again ∷ rest) s) ∙ loop_back a (summed x rest s)
+  summed_piece _ rest s = unchanged (summed x rest s)

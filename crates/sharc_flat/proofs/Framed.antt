@@ -1,12 +1,7 @@
 -- Flattened code is framed: each line writes in the frame of its function and leads to lines of it.
-use Rattle.sharc_flat.proofs.{Imports.{◌≡◌, ℕ, zero, suc, ◌+◌, ◌-◌, ◌*◌, ◌^◌, ◌<◌, ◌≤◌, Bool, true, false, cond, List, [], ◌∷◌, ◌++◌, length, map, max, get_or, Some, None, refl, sym, ap, ◌∙◌, subst, arith, length-append, nat_lt, nat_tests, slice_get, Declaration, Function, is_pointer, declared_kind, Row, Cell, Register, no_function, Width, GlobalCells, Parameter, function_at, functions_in, Assignment, Op, Spot, Flat, function_of, BaseWithin, HandedWithin, HasParameter, OpWrites, InLine, OpLeads, IsFramedAt, IsFramed, IsWide, Leads, IsFlat, FitsFrames, int_count, ref_count, slot_of, at_site, int_need, ref_need, base_need, handed_need, ints_in, refs_in, IsRow, AreRows, IsFlattened, parameter_of, function_code, functions_code, in_function, ProgramSuits, inside_list}, Declaring.declared_reference, Staying.{Wide, OpStays, Stays}, Keeping.{InLoopsAll, front, front_is, function_keeps}, Knowing.all_loops}
+use Rattle.sharc_flat.proofs.{Imports.{rules, same_some, none_some, front_got, ◌≡◌, ℕ, zero, suc, ◌+◌, ◌-◌, ◌*◌, ◌^◌, ◌<◌, ◌≤◌, Bool, true, false, cond, List, [], ◌∷◌, ◌++◌, length, map, max, get_or, Some, refl, sym, ap, ◌∙◌, subst, arith, length-append, nat_lt, nat_tests, slice_get, Declaration, Function, is_pointer, declared_kind, Row, Cell, Register, no_function, Width, GlobalCells, Parameter, function_at, functions_in, Assignment, Op, Spot, Flat, function_of, BaseWithin, HandedWithin, HasParameter, OpWrites, InLine, OpLeads, IsFramedAt, IsFramed, IsWide, Leads, IsFlat, FitsFrames, int_count, ref_count, slot_of, at_site, int_need, ref_need, base_need, handed_need, ints_in, refs_in, IsRow, AreRows, IsFlattened, parameter_of, function_code, functions_code, in_function, ProgramSuits, inside_list}, Declaring.declared_reference, Staying.{Wide, OpStays, Stays}, Keeping.{InLoopsAll, front, front_is, function_keeps}, Knowing.all_loops}
 
 -- ---- lists
-get_left : (xs ys : List Op) (j : ℕ) → j < length xs → slice_get (xs ++ ys) j ≡ slice_get xs j
-get_left [] ys j lt = absurd (omega arith)
-get_left (x ∷ xs) ys zero lt = refl
-get_left (x ∷ xs) ys (suc j) lt = get_left xs ys j (omega arith)
-
 get_right : (xs ys : List Op) (j : ℕ) → slice_get (xs ++ ys) (length xs + j) ≡ slice_get ys j
 get_right [] ys j = let e : 0 + j ≡ j = omega arith in ap (slice_get ys) e
 get_right (x ∷ xs) ys j = let e : length (x ∷ xs) + j ≡ suc (length xs + j) = omega arith in ap (slice_get (x ∷ (xs ++ ys))) e ∙ get_right xs ys j
@@ -31,12 +26,6 @@ ref_small [] j o e = absurd (cc)
 ref_small (x ∷ os) zero o e = let same : x ≡ o = cc in subst (λ o. ref_need o ≤ max (ref_need x) (refs_in os)) same (omega arith)
 ref_small (x ∷ os) (suc j) o e = let le = ref_small os j o e in omega arith
 
-pub some_same : (x o : Op) → Some x ≡ Some o → x ≡ o
-some_same x o e = cc
-
-none_some : {o : Op} → None ≡ Some o → ⊥
-none_some e = cc
-
 -- ---- what an operation writes, and where it leads
 base_within : (refs : ℕ) (cell : Cell) → base_need cell ≤ refs → BaseWithin refs cell
 base_within refs (Cell.Object r n) le = omega arith
@@ -48,32 +37,10 @@ handed_within refs (Register.Int i) le = tt
 handed_within refs (Register.Reference r) le = omega arith
 
 writes : (I R : ℕ) (o : Op) → int_need o ≤ I → ref_need o ≤ R → ((i elements cells field : ℕ) (spot : Spot) → o ≡ Op.GlobalBounds i elements cells field spot → elements * cells + field < 2 ^ 63) → OpWrites I R o
-writes I R (Op.Constant a b) p q few = omega arith
-writes I R (Op.Move a b) p q few = omega arith
-writes I R (Op.Compute a b c d e f) p q few = omega arith
-writes I R (Op.Negate a b c d) p q few = omega arith
-writes I R (Op.Complement a b) p q few = omega arith
-writes I R (Op.IsFalse a b) p q few = omega arith
-writes I R (Op.SameReference a b c) p q few = omega arith
-writes I R (Op.Call a b c d) p q few = (omega arith, omega arith)
-writes I R (Op.Null a) p q few = omega arith
-writes I R (Op.Local a b) p q few = omega arith
-writes I R (Op.MoveReference a b) p q few = (omega arith, omega arith)
-writes I R (Op.Pop a) p q few = omega arith
-writes I R (Op.Settle a b) p q few = (omega arith, omega arith)
-writes I R (Op.Bounds a b c d e) p q few = omega arith
 writes I R (Op.GlobalBounds a b c d e) p q few = (omega arith, few a b c d e refl)
-writes I R (Op.Load a b c) p q few = omega arith
-writes I R (Op.LoadRef a b c) p q few = omega arith
-writes I R (Op.StoreRef a b c) p q few = omega arith
-writes I R (Op.New a b c d) p q few = omega arith
-writes I R (Op.TakeCell a b c) p q few = omega arith
-writes I R (Op.TakeLocal a b c) p q few = (omega arith, omega arith)
-writes I R (Op.Free a b c) p q few = omega arith
 writes I R (Op.Lock a b) p q few = base_within R a q
-writes I R (Op.Unlock a b c) p q few = omega arith
 writes I R (Op.Spawn a b c d) p q few = (omega arith, handed_within R c q)
-writes I R _ p q few = tt
+writes I R _ p q few = search rules
 
 leads : (A Fn : ℕ → Type 0) (flat : Flat) (owner : ℕ → ℕ) (n rest : ℕ) (o : Op) → OpStays A Fn rest o → ((k : ℕ) → k ≤ rest → InLine flat owner (owner n) (n + 1 + k)) → ((q : ℕ) → A q → InLine flat owner (owner n) q) → InLine flat owner (owner n) (n + 1)
     → ((f : ℕ) → Fn f → f < length flat.functions) → OpLeads flat owner n o
@@ -182,7 +149,7 @@ module _ (Fn : ℕ → Type 0) (m : Assignment) (globals : List GlobalCells) whe
       by : (b : Bool) → nat_lt j (length C) ≡ b → (slice_get R (j - length C) ≡ Some o → FoundAt (k + 1) (pc + length C) fs rows (pc + length C + (j - length C)) o) → FoundAt k pc (f ∷ fs) (row ∷ rows) (pc + j) o
       by true e ih =
           let lt : j < length C = grind (arith, nat_tests, e) in
-          record { number = zero; row = first_row k pc f fs row rows are.0 (l zero f refl); place = j; place_is = refl; at = sym (get_left C R j lt) ∙ at }
+          record { number = zero; row = first_row k pc f fs row rows are.0 (l zero f refl); place = j; place_is = refl; at = sym (front_got C R j lt) ∙ at }
       by false e ih =
           let ge : length C ≤ j = grind (arith, nat_tests, e) in
           let z : length C + (j - length C) ≡ j = omega arith in
@@ -273,7 +240,7 @@ module _ (m : Assignment) (flat : Flat) (is : IsFlattened m flat) (loops : (f : 
       by : (b : Bool) → nat_lt w.place (length F) ≡ b → IsFramedAt flat owner n o × Leads flat n o
       by true e =
           let lt : w.place < length F = grind (arith, nat_tests, e) in
-          let s = stands A Fn F w.place o (function_keeps A Fn m T w.row.begin fn w.row.loop (λ q a b. (a, b))) (sym (get_left F R w.place lt) ∙ get_in) in
+          let s = stands A Fn F w.place o (function_keeps A Fn m T w.row.begin fn w.row.loop (λ q a b. (a, b))) (sym (front_got F R w.place lt) ∙ get_in) in
           let sc = s.count in
           let d_is : owner n ≡ w.number = (in_line w.number w.row n (omega (arith, n_is)) (omega (arith, n_is, count))).owned in
           let to : (q : ℕ) → w.row.begin ≤ q → q < w.row.begin + length C → InLine flat owner (owner n) q = λ q a b. subst (λ d. InLine flat owner d q) (sym d_is) (in_line w.number w.row q a b) in
@@ -284,9 +251,9 @@ module _ (m : Assignment) (flat : Flat) (is : IsFlattened m flat) (loops : (f : 
         where
           last : (j : ℕ) → w.place ≡ length F + j → IsFramedAt flat owner n o × Leads flat n o
           last zero z =
-              let same : Op.Return (at_site fn.body.last) ≡ o = some_same (Op.Return (at_site fn.body.last)) o (sym (get_right F R zero) ∙ ap (slice_get (F ++ R)) (sym z) ∙ get_in) in
+              let same : Op.Return (at_site fn.body.last) ≡ o = same_some (Op.Return (at_site fn.body.last)) o (sym (get_right F R zero) ∙ ap (slice_get (F ++ R)) (sym z) ∙ get_in) in
               (framed_at (omega (arith, count, z)) (subst (OpLeads flat owner n) same tt), subst (Leads flat n) same tt)
-          last (suc j) z = absurd (none_some (sym (get_right F R (suc j)) ∙ ap (slice_get (F ++ R)) (sym z) ∙ get_in))
+          last (suc j) z = absurd (none_some _ (sym (get_right F R (suc j)) ∙ ap (slice_get (F ++ R)) (sym z) ∙ get_in))
 
   pub framed : IsFramed flat
   framed = record { owner = owner; entries = entry_of; each = λ n o at. (line_is n o at).0; few_ints = fits.few_ints; few_refs = fits.few_refs; apart = fits.apart }

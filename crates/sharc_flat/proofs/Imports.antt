@@ -1,8 +1,8 @@
 -- What the proofs cite of std, of other crates and of this crate's definitions, passed on from one place.
-pub use Rattle.std.proofs.{Common.{Bool, List, None, Option, Some, [], ap, append_assoc, arith, cond, drop, false, get_or, inl, inr, length, length-append, map, max, refl, subst, suc, sym, take, true, zero, ℕ, ⊎_elim, ◌*◌, ◌++◌, ◌+◌, ◌-◌, ◌/◌, ◌<◌, ◌^◌, ◌∙◌, ◌∷◌, ◌≡◌, ◌≤◌}, Math.Seq.get_or-append_seam, lemmas.Bool.{cases_eq, cases_lt}, lemmas.Bool.Decides.nat_tests, lemmas.List.{append-nil, drop_at, flat_map_more, get_or-append-add, get_or-set_other, get_or-set_same, get_or_append_left, get_or_at, get_or_past, length-map, map-append, set-append_left, set-append_right, set_at, take-append-drop, take-map, take_at}, lemmas.List.Sums.sum_by-cons, lemmas.Option.slice_get-get_or}
+pub use Rattle.std.proofs.{Common.{Bool, List, None, Option, Some, [], ap, append_assoc, arith, cond, drop, false, get_or, inl, inr, length, length-append, map, max, refl, subst, suc, sym, take, true, zero, ℕ, ⊎_elim, ◌*◌, ◌++◌, ◌+◌, ◌-◌, ◌/◌, ◌<◌, ◌^◌, ◌∙◌, ◌∷◌, ◌≡◌, ◌≤◌, rules}, Math.Seq.get_or-append_seam, lemmas.Bool.{cases_eq, cases_lt}, lemmas.Bool.Decides.nat_tests, lemmas.List.{append-nil, drop_at, flat_map_more, get_or-append-add, get_or-set_other, get_or-set_same, get_or_append_left, get_or_at, get_or_past, length-map, map-append, set-append_left, set-append_right, set_at, take-append-drop, take-map, take_at}, lemmas.List.Sums.sum_by-cons, lemmas.Option.{slice_get-get_or, slice_get_past}}
 pub use Rattle.std.specs.{Prelude.{Err, Ok, Result, codes, count_by, flat_map, fold, if◌then◌else◌, int_div, int_le, int_lt, nat_le, nat_lt, neg_ℤ, negsuc, not, pos, reverse, set, slice_get, unsigned_abs, ℤ, ◌&&◌, ◌==◌, ◌||◌, ◌≢◌, ◌⊎◌}, Str.bytes_eq}
 pub use mathlib.Core.List.{reverse-cons}
-pub use Rattle.sharc_lemmas.proofs.{Bools.or_false, Lists.{there_is as inside_list}, Numbers.{eqb_other, half, same_is as eqb_same}, Options.{some_is as same_mutex}}
+pub use Rattle.sharc_lemmas.proofs.{Bools.or_false, Lists.{front_got, there_is as inside_list}, Numbers.{eqb_other, half, same_is as eqb_same}, Options.{none_some, same_some, some_is as same_mutex}}
 pub use Rattle.sharc_tree.specs.{Spans.span_of, Tree.{Arguments, Expression, First, Function, Local, Right, Simple, Statement, Statements, argument, assign, binary, block, call, cast, constant, declare, declares, does, does_call, empty, field, for, identifier, if_then, if_then_else, index, jump, malloc, no_arguments, no_statements, nothing, on_place, on_value, parentheses, return, simple, spawn, statement, unary, value, while}, declared.ctype.Base.Base, declared.event.Act.Act, declared.event.CellAt.CellAt, declared.event.CellMode.CellMode, declared.event.Object.Object, declared.event.Object.TheVariants.{Global, Made}, declared.event.SourceEvent.SourceEvent, declared.event.TakeKind.TakeKind, declared.event.Taken.Taken, declared.token.NumberType.NumberType, declared.token.Site.Site, declared.token.Span.Span, declared.trap.Trap.Trap, declared.tree.declaration.Declaration.Declaration, declared.tree.declaration.Identifier.Identifier, declared.tree.declaration.WrittenType.WrittenType, declared.tree.expression.BinaryOperator.BinaryOperator, declared.tree.expression.BinaryOperator.TheVariants.{Add, Divide, Equal, Greater, GreaterOrEqual, Less, LessOrEqual, LogicalAnd, LogicalOr, Multiply, NotEqual, Remainder, ShiftLeft, ShiftRight, Subtract}, declared.tree.expression.Constant.Constant, declared.tree.expression.Constant.TheVariants.{Character, Null, Number}, declared.tree.expression.FieldOperator.FieldOperator, declared.tree.expression.FieldOperator.TheVariants.{Arrow, Dot}, declared.tree.expression.PlaceCall.PlaceCall, declared.tree.expression.PlaceCall.TheVariants.{Free, Lock, Unlock}, declared.tree.expression.UnaryOperator.UnaryOperator, declared.tree.expression.UnaryOperator.TheVariants.{Complement, Dereference, Negate, Not}, declared.tree.expression.ValueCall.ValueCall, declared.tree.expression.ValueCall.TheVariants.{Join, Print}, declared.tree.item.GlobalDefinition.GlobalDefinition, declared.tree.statement.Jump.Jump, declared.tree.statement.Jump.TheVariants.{Break, Continue}}
 pub use Rattle.sharc_names.specs.{Kinds.{Kind, array, common, declared_kind, declared_kinds, element_kind, int, is_array, is_integer, is_integral, is_long, is_pointer, long, null, object, promoted}, declared.fault.Named.Named}
 pub use Rattle.sharc_ctype.specs.{Expressions.{binary_result, class_of, constant_kind, number_kind}, Resolved.{Resolution, function_at, functions_in, global_at, globals_in, kind_at, named_at, structs_in}, Transfers.{parameters_named, parameters_of}, declared.expr.OperatorClass.OperatorClass, declared.expr.OperatorClass.TheVariants.{Arithmetic, Shift}}

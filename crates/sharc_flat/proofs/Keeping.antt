@@ -33,7 +33,7 @@ abbrev mutual
   InLoopsAll Fn r b no_statements = Unit {0}
   InLoopsAll Fn r b (statement x rest) = InLoops Fn r b x × InLoopsAll Fn r b rest
 
-turn_length : (c : Context) (e : Option Expression) (over : ℕ) → length (turn_code c e over) ≡ length (turn_code c e 0)
+pub turn_length : (c : Context) (e : Option Expression) (over : ℕ) → length (turn_code c e over) ≡ length (turn_code c e 0)
 turn_length c None over = refl
 turn_length c (Some e) over = length-append (test_code c e) (Op.SkipIfZero (ints_of c) over ∷ []) ∙ sym (length-append (test_code c e) (Op.SkipIfZero (ints_of c) 0 ∷ []))
 

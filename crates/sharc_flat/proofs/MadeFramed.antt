@@ -1,5 +1,5 @@
 -- Code that is laid out stays within its frames, as the code does whose texts are given.
-use Rattle.sharc_flat.proofs.{Imports.{◌≡◌, ℕ, zero, suc, ◌+◌, ◌*◌, ◌^◌, ◌<◌, max, List, [], ◌∷◌, length, Option, Some, None, refl, ap, sym, ◌∙◌, subst, arith, slice_get, get_or as slice_index_or, fold, Row, Parameter, Text, no_function, most_ints, most_refs, Resolution, functions_in, Assignment, FlatCode, Op, Spot, HasParameter, IsInGlobal, OpWrites, InLine, OpLeads, IsFramedAt, IsFramed, Leads, IsFlat, Flat, function_of, flat_of, ProgramSuits, flattened, Flattens, names_of, told_by, with_texts, AreLaid, AreNamed, Lays, FitsFrames, FitsMade, globals_of}, Apart.apart, Flattening.is_flattened, Framed.{flattened_is_framed, some_same as one_line}, Laying.{same_length, rows_same}}
+use Rattle.sharc_flat.proofs.{Imports.{same_some as one_line, ◌≡◌, ℕ, zero, suc, ◌+◌, ◌*◌, ◌^◌, ◌<◌, max, List, [], ◌∷◌, length, Option, Some, None, refl, ap, sym, ◌∙◌, subst, arith, slice_get, get_or as slice_index_or, fold, Row, Parameter, Text, no_function, most_ints, most_refs, Resolution, functions_in, Assignment, FlatCode, Op, Spot, HasParameter, IsInGlobal, OpWrites, InLine, OpLeads, IsFramedAt, IsFramed, Leads, IsFlat, Flat, function_of, flat_of, ProgramSuits, flattened, Flattens, names_of, told_by, with_texts, AreLaid, AreNamed, Lays, FitsFrames, FitsMade, globals_of}, Apart.apart, Flattening.is_flattened, Framed.flattened_is_framed, Laying.{same_length, rows_same}}
 
 -- ---- lines
 -- a line that is made is one that is given, with other texts

@@ -1,5 +1,5 @@
 -- Every statement, by its form, and every function.
-use Rattle.sharc_flat.proofs.{Imports.{◌≡◌, ℕ, ◌+◌, ◌≤◌, Bool, true, false, cond, List, [], ◌∷◌, ◌++◌, length, Option, Some, None, refl, sym, ap, ◌∙◌, subst, arith, append_assoc, length-append, append-nil, ℤ, pos, unsigned_abs, Act, Span, Expression, Right, value, malloc, Simple, assign, does_call, Local, First, nothing, declares, does, Statement, empty, block, declare, simple, jump, return, if_then, if_then_else, while, for, Statements, no_statements, statement, span_of, Declaration, Kind, is_integer, int, declared_kind, Assignment, Sharing, private, mode_in, pointed, written, row_at, declared_row, stored, Run, ◌>>=◌, ◌>>◌, give, entered, answered, value_of, is_reference, temporarily, done, unless_stop, in_block, begins_with, tested, fitting, Calls, eval, place_of, Flow, next, returned, loop, left_by, exec_all, is_positive, right_value, done_simple, initialised, declared, done_first, done_step, done_test, element_cells, instance_mode, Op, lvalue_of, Target, base_width, beside_field, store_code, target, width_code, index_width, object_spot, no_text, Context, int_count, ref_count, at_site, ends_from, leaves, slot_of, Slot, truth_code, Around, opened, looping, result_code, zero_code, jump_code, return_code, loop_code, choice_code, statements_code, behind_statements, IsFlattened, expression_code, place_code, right_code, simple_code, initial_code, local_code, first_code, behind_first, step_code, turn_code, if_code, statement_code, behind_statement, RightSuits, LeftSuits, SimpleSuits, InitialSuits, FirstSuits, in_first, TestSuits, IfThere, is_declaration, in_statement, StatementSuits, StatementsSuit, Use, kind_at, Trap}, Runs.{HasAt, has_front, Same, weaken, bind, enters_at}, Agreeing.{Standing, place, holding, same_frame}, Accessing.context, Values.{RunsAs, PlaceAs}, Testing.{TestAs, fitting_runs, tested_runs}, Executing.{After, Here, Beyond, StatementAs, entered_statement, block_runs, closed_runs}, Statements.{StepAs, step_then, DecidesAs, loop_runs, no_more, one_more, jump_runs, empty_runs, decides_runs, always_runs, if_runs, choice_runs}, Linking.CallsAs, Taking.{need_more, entered_more, new_runs}, Expressing.give_int, Inducing.{eval_runs, place_runs}, Assigning.{assign_cell_runs, assign_name_runs, call_runs}, Declaring.{begin_runs, initial_runs, return_none_runs, return_value_runs, headed_runs}}
+use Rattle.sharc_flat.proofs.{Imports.{◌≡◌, ℕ, ◌+◌, ◌≤◌, Bool, true, false, cond, List, [], ◌∷◌, ◌++◌, length, Option, Some, None, refl, sym, ap, ◌∙◌, subst, arith, append_assoc, append-nil, ℤ, pos, unsigned_abs, Act, Span, Expression, Right, value, malloc, Simple, assign, does_call, Local, First, nothing, declares, does, Statement, empty, block, declare, simple, jump, return, if_then, if_then_else, while, for, Statements, no_statements, statement, span_of, Declaration, Kind, is_integer, int, declared_kind, Assignment, Sharing, private, mode_in, pointed, written, row_at, declared_row, stored, Run, ◌>>=◌, ◌>>◌, give, entered, answered, value_of, is_reference, temporarily, done, unless_stop, in_block, begins_with, tested, fitting, Calls, eval, place_of, Flow, next, returned, loop, left_by, exec_all, is_positive, right_value, done_simple, initialised, declared, done_first, done_step, done_test, element_cells, instance_mode, Op, lvalue_of, Target, base_width, beside_field, store_code, target, width_code, index_width, object_spot, no_text, Context, int_count, ref_count, at_site, ends_from, leaves, slot_of, Slot, truth_code, Around, opened, looping, result_code, zero_code, jump_code, return_code, loop_code, choice_code, statements_code, behind_statements, IsFlattened, expression_code, place_code, right_code, simple_code, initial_code, local_code, first_code, behind_first, step_code, turn_code, if_code, statement_code, behind_statement, RightSuits, LeftSuits, SimpleSuits, InitialSuits, FirstSuits, in_first, TestSuits, IfThere, is_declaration, in_statement, StatementSuits, StatementsSuit, Use, kind_at, Trap}, Runs.{HasAt, has_front, Same, weaken, bind, enters_at}, Agreeing.{Standing, place, holding, same_frame}, Accessing.context, Values.{RunsAs, PlaceAs}, Testing.{TestAs, fitting_runs, tested_runs}, Executing.{After, Here, Beyond, StatementAs, entered_statement, block_runs, closed_runs}, Statements.{StepAs, step_then, DecidesAs, loop_runs, no_more, one_more, jump_runs, empty_runs, decides_runs, always_runs, if_runs, choice_runs}, Linking.CallsAs, Taking.{need_more, entered_more, new_runs}, Expressing.give_int, Inducing.{eval_runs, place_runs}, Assigning.{assign_cell_runs, assign_name_runs, call_runs}, Declaring.{begin_runs, initial_runs, return_none_runs, return_value_runs, headed_runs}, Keeping.turn_length}
 use Rattle.sharc_meaning.specs.Statements.{exec}
 use Rattle.sharc_flat.specs.Places as targets
 
@@ -120,12 +120,6 @@ module _ (m : Assignment) (z : Standing) (result : Kind) (ints0 : ℕ → ℤ) (
   decides scope None h = always_runs m z result ints0 scope
   decides scope (Some e) h = decides_one scope e h
 
-  turn_length : (scope : List Slot) (e : Option Expression) (k : ℕ) → length (turn_code (C scope) e k) ≡ length (turn_code (C scope) e 0)
-  turn_length scope None k = refl
-  turn_length scope (Some e) k =
-      let t = X scope e (int_count scope) (ref_count scope) ++ truth_code (is_reference (K e)) (int_count scope) (ref_count scope) in
-      length-append t (Op.SkipIfZero (int_count scope) k ∷ []) ∙ sym (length-append t (Op.SkipIfZero (int_count scope) 0 ∷ []))
-
   step_runs : (scope : List Slot) (x : Option Simple) → IfThere (SimpleSuits (C scope)) x → Steps scope scope 0 (done_step on_call m x) (step_code (C scope) x)
   step_runs scope None h = no_step scope
   step_runs scope (Some x) h = simple_runs scope x h
@@ -184,7 +178,7 @@ module _ (m : Assignment) (z : Standing) (result : Kind) (ints0 : ℕ → ℤ) (
       → ((pc : ℕ) → here (looping a (pc + 1) (pc + 2)) scope scope 0 body (λ at. cb pc at))
       → here a scope scope 1 (loop (tested m.typed e (E e)) done body) (λ pc. loop_code pc [] (turn_code (C scope) (Some e)) (λ at. cb pc at))
   while_runs a scope e body cb h of_body pc c ints refs s k has st rest =
-      loop_runs m z result ints0 a scope pc 1 (tested m.typed e (E e)) (turn_code (C scope) (Some e)) done [] body (λ at. cb pc at) (decides_one scope e h) (turn_length scope (Some e)) (no_step scope) (of_body pc) c k has rest ints refs s st
+      loop_runs m z result ints0 a scope pc 1 (tested m.typed e (E e)) (turn_code (C scope) (Some e)) done [] body (λ at. cb pc at) (decides_one scope e h) (turn_length (C scope) (Some e)) (no_step scope) (of_body pc) c k has rest ints refs s st
 
   -- and one after what its head begins with
   for_runs : (a : Around) (scope more : List Slot) (first : First) (test : Option Expression) (update : Option Simple) (body : Run Flow) (cb : ℕ → ℕ → List Op) → first_more first ≡ more → FirstSuits (C scope) first → IfThere (TestSuits (C (scope ++ more))) test → IfThere (SimpleSuits (C (scope ++ more))) update
@@ -195,7 +189,7 @@ module _ (m : Assignment) (z : Standing) (result : Kind) (ints0 : ℕ → ℤ) (
       block_runs m z result ints0 a scope (scope ++ more) 1 (done_first on_call m first >> loop (done_test on_call m test) (done_step on_call m update) body)
       (λ pc. first_code (C scope) first ++ loop_code (pc + length (first_code (C scope) first)) (step_code (C (scope ++ more)) update) (turn_code (C (scope ++ more)) test) (λ at. cb pc at)) (more, refl)
       (λ pc c ints refs s k has st rest. headed_runs m z result ints0 (record a { inside = length scope ∷ a.inside }) scope more 0 (gain_of test) (done_first on_call m first) (first_code (C scope) first) (done_test on_call m test) (turn_code (C (scope ++ more)) test)
-      (done_step on_call m update) (step_code (C (scope ++ more)) update) body cb pc (subst (λ q. Steps scope (scope ++ q) 0 (done_first on_call m first) (first_code (C scope) first)) e (first_runs scope first hf)) (decides (scope ++ more) test ht) (turn_length (scope ++ more) test) (step_runs (scope ++ more) update hu) (of_body pc)
+      (done_step on_call m update) (step_code (C (scope ++ more)) update) body cb pc (subst (λ q. Steps scope (scope ++ q) 0 (done_first on_call m first) (first_code (C scope) first)) e (first_runs scope first hf)) (decides (scope ++ more) test ht) (turn_length (C (scope ++ more)) test) (step_runs (scope ++ more) update hu) (of_body pc)
       c ints refs s k has st rest)
 
   mutual
@@ -226,12 +220,12 @@ module _ (m : Assignment) (z : Standing) (result : Kind) (ints0 : ℕ → ℤ) (
     statement_runs (if_then s e x) a scope in_loop er il h =
         entered_statement m z result ints0 a (Here m z result ints0 scope) scope scope 0 (tested m.typed e (E e) >>= λ b. cond b (exec on_call m result x) (give next)) (λ pc. if_code pc (turn_code (C scope) (Some e)) (λ at. statement_code (C scope) a at x)) (omega arith)
         (if_runs m z result ints0 a scope (tested m.typed e (E e)) (turn_code (C scope) (Some e)) (exec on_call m result x) (λ at. statement_code (C scope) a at x) (decides_one scope e h.0)
-        (subst (λ (q : Context). Runs1 a scope q.scope (exec on_call m result x) (λ pc. statement_code (C scope) a pc x)) (stays scope x h.2) (statement_runs x a scope in_loop er il h.1)) (turn_length scope (Some e)))
+        (subst (λ (q : Context). Runs1 a scope q.scope (exec on_call m result x) (λ pc. statement_code (C scope) a pc x)) (stays scope x h.2) (statement_runs x a scope in_loop er il h.1)) (turn_length (C scope) (Some e)))
     statement_runs (if_then_else s e x y) a scope in_loop er il h =
         entered_statement m z result ints0 a (Here m z result ints0 scope) scope scope 0 (tested m.typed e (E e) >>= λ b. cond b (exec on_call m result x) (exec on_call m result y)) (λ pc. choice_code pc (turn_code (C scope) (Some e)) (λ at. statement_code (C scope) a at x) (λ at. statement_code (C scope) a at y)) (omega arith)
         (choice_runs m z result ints0 a scope (tested m.typed e (E e)) (turn_code (C scope) (Some e)) (exec on_call m result x) (exec on_call m result y) (λ at. statement_code (C scope) a at x) (λ at. statement_code (C scope) a at y) (decides_one scope e h.0)
         (subst (λ (q : Context). Runs1 a scope q.scope (exec on_call m result x) (λ pc. statement_code (C scope) a pc x)) (stays scope x h.3) (statement_runs x a scope in_loop er il h.1))
-        (subst (λ (q : Context). Runs1 a scope q.scope (exec on_call m result y) (λ pc. statement_code (C scope) a pc y)) (stays scope y h.4) (statement_runs y a scope in_loop er il h.2)) (turn_length scope (Some e)))
+        (subst (λ (q : Context). Runs1 a scope q.scope (exec on_call m result y) (λ pc. statement_code (C scope) a pc y)) (stays scope y h.4) (statement_runs y a scope in_loop er il h.2)) (turn_length (C scope) (Some e)))
     statement_runs (while s e x) a scope in_loop er il h =
         entered_statement m z result ints0 a (Here m z result ints0 scope) scope scope 1 (loop (tested m.typed e (E e)) done (exec on_call m result x)) (λ pc. loop_code pc [] (turn_code (C scope) (Some e)) (λ at. statement_code (C scope) (looping a (pc + 1) (pc + 2)) at x)) (omega arith)
         (while_runs a scope e (exec on_call m result x) (λ pc at. statement_code (C scope) (looping a (pc + 1) (pc + 2)) at x) h.0

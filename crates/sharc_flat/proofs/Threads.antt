@@ -1,5 +1,5 @@
 -- A thread, from its start to its end, and both directions.
-use Rattle.sharc_flat.proofs.{Imports.{◌≡◌, ℕ, zero, suc, ◌+◌, ◌-◌, ◌<◌, ◌≤◌, Bool, true, false, cond, List, [], ◌∷◌, ◌++◌, length, get_or, take, map, Some, None, refl, sym, ap, ◌∙◌, subst, ⊎_elim, arith, inl, inr, cases_lt, ℤ, pos, slice_get, not, nat_lt, ◌⊎◌, ◌≢◌, Site, Act, Declaration, is_pointer, declared_kind, Assignment, Frame, State, Out, go, over, then_on, ◌>>=◌, ◌>>◌, give, entered, happens, answer_of, value_in, is_reference, pointers_among, done, performs, without_temporaries, stopped, unless_stop, holds, spent, ends_variables, event_of, Outcome, wants, ended, held_references, turns, exec_all, Variable, parameters_begin, left_at, pointers_passed, with_frame, run_function, calls, run_thread, goes_away, source_asks, source_start, no_frame, held_mutexes, SpentIsNone, Op, Spot, Flat, At, goes, asks, put, on, halts, function_of, Turn, Came, exec, on_turn, on_answer, turn, line_turn, end_turn, start as start_at, first_at, begun as begun_at, with_event, ref_count, at_site, slot_of, around_body, in_function, statements_code, parameters_scope, IsFlattened, parameter_of, SameAs, ProgramSuits, MayStart, Forth, Back, AsksTheSame, Trap, function_at, Parameter}, Banks.{Bank, bank_is, bank_push}, Runs.{Fin, fin_of, fin_then, Same, weaken, step, Holds, bind, after_event, ends, Tells}, Agreeing.{slots_of, int_values, Standing, place, Agree, below, loose_of}, Declaring.declared_reference, Functions.{begun, function_runs}, Linking.{CallsAs, BodiesAs, inner_scope, no_room, one_call, linked, unframe, below_more}, Storing.performs_then, Program.{statements_run, beyond_all}}
+use Rattle.sharc_flat.proofs.{Imports.{slice_get_past, ◌≡◌, ℕ, zero, suc, ◌+◌, ◌-◌, ◌<◌, ◌≤◌, Bool, true, false, cond, List, [], ◌∷◌, ◌++◌, length, get_or, take, map, Some, None, refl, sym, ap, ◌∙◌, subst, ⊎_elim, arith, inl, inr, cases_lt, ℤ, pos, slice_get, not, nat_lt, ◌⊎◌, ◌≢◌, Site, Act, Declaration, is_pointer, declared_kind, Assignment, Frame, State, Out, go, over, then_on, ◌>>=◌, ◌>>◌, give, entered, happens, answer_of, value_in, is_reference, pointers_among, done, performs, without_temporaries, stopped, unless_stop, holds, spent, ends_variables, event_of, Outcome, wants, ended, held_references, turns, exec_all, Variable, parameters_begin, left_at, pointers_passed, with_frame, run_function, calls, run_thread, goes_away, source_asks, source_start, no_frame, held_mutexes, SpentIsNone, Op, Flat, At, goes, asks, put, on, halts, function_of, Turn, Came, exec, on_turn, on_answer, turn, line_turn, end_turn, start as start_at, first_at, begun as begun_at, with_event, ref_count, at_site, slot_of, around_body, in_function, statements_code, parameters_scope, IsFlattened, parameter_of, SameAs, ProgramSuits, MayStart, Forth, Back, AsksTheSame, Trap, function_at, Parameter}, Banks.{Bank, bank_is, bank_push}, Runs.{Fin, fin_of, fin_then, Same, weaken, step, Holds, bind, after_event, ends, Tells}, Agreeing.{slots_of, int_values, Standing, place, Agree, below, loose_of}, Declaring.declared_reference, Functions.{begun, function_runs}, Linking.{CallsAs, BodiesAs, inner_scope, no_room, one_call, linked, unframe, below_more}, Storing.performs_then, Program.{statements_run, beyond_all}}
 use Rattle.sharc_meaning.specs.Meaning.{asked_by}
 
 -- one event, also at a place after the code
@@ -31,10 +31,6 @@ ends_turn flat out c s w holds ev gi is = record {
   low = omega arith;
   high = omega arith;
 }
-
-behind_all : (code : List Op) (d : ℕ) → slice_get code (length code + d) ≡ None
-behind_all [] d = refl
-behind_all (o ∷ code) d = let e : suc (length code) + d ≡ suc (length code + d) = omega arith in ap (slice_get (o ∷ code)) e ∙ behind_all code d
 
 -- ---- what stays
 on_list : (flat : Flat) (n d : ℕ) (answers : List ℤ) (m1 : At) (site : Site) (act : Act) (held : ℤ) (f : ℤ → At → At) → ((answers : List ℤ) (w : At) → (exec flat n answers w).outcome ≢ spent → exec flat (n + d) answers w ≡ exec flat n answers w)
@@ -73,7 +69,7 @@ module _ (m : Assignment) (suits : ProgramSuits m) where
 
     gone_at : (pc d : ℕ) (ints refs : ℕ → ℤ) (s : State) → pc ≡ length flat.lines + d → turn flat (place z0 pc ints refs s) ≡ end_turn flat (place z0 pc ints refs s) d
     gone_at pc d ints refs s e =
-        let none : slice_get flat.lines pc ≡ None = ap (slice_get flat.lines) e ∙ behind_all flat.lines d in
+        let none : slice_get flat.lines pc ≡ None = ap (slice_get flat.lines) e ∙ slice_get_past flat.lines (length flat.lines + d) (omega arith) in
         let diff : pc - length flat.lines ≡ d = omega arith in
         ap (λ o. line_turn flat o (place z0 pc ints refs s)) none ∙ ap (end_turn flat (place z0 pc ints refs s)) diff
 

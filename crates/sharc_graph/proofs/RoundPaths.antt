@@ -4,34 +4,27 @@ use Rattle.sharc_graph.proofs.{Imports.{◌≡◌, ℕ, zero, suc, ◌+◌, ◌<
 -- ---- places
 root_of : (place : PositionKind) → is_source place ≡ true → is_unwritten place ≡ true → place ≡ Root
 root_of Root source unwritten = refl
-root_of Unwritten source unwritten = absurd (false≢true source)
 root_of Dynamic source unwritten = absurd (false≢true unwritten)
-root_of Private source unwritten = absurd (false≢true source)
-root_of Other source unwritten = absurd (false≢true source)
+root_of _ source unwritten = absurd (false≢true source)
 
 by_source : (place : PositionKind) (o : Option ℕ) (below : Bool) → is_source place ≡ true → rank_by place o below ≡ Some 0
 by_source Root o below source = refl
-by_source Unwritten o below source = absurd (false≢true source)
 by_source Dynamic o below source = refl
-by_source Private o below source = absurd (false≢true source)
-by_source Other o below source = absurd (false≢true source)
+by_source _ o below source = absurd (false≢true source)
 
 by_unwritten : (place : PositionKind) (o : Option ℕ) (below : Bool) (rank : ℕ) → is_unwritten place ≡ true → (place ≡ Root → o ≡ Some 0) → o ≡ Some rank → rank_by place o below ≡ Some rank
 by_unwritten Root o below rank unwritten root is = sym (root refl) ∙ is
 by_unwritten Unwritten o below rank unwritten root is = is
-by_unwritten Dynamic o below rank unwritten root is = absurd (false≢true unwritten)
-by_unwritten Private o below rank unwritten root is = absurd (false≢true unwritten)
-by_unwritten Other o below rank unwritten root is = absurd (false≢true unwritten)
+by_unwritten _ o below rank unwritten root is = absurd (false≢true unwritten)
 
 -- for which links a position is of a rank
 by_cases : (place : PositionKind) (o : Option ℕ) (below : Bool) (rank : ℕ) → rank_by place o below ≡ Some rank
     → (is_source place ≡ true × rank ≡ 0) ⊎ ((place ≡ Other) × (below ≡ true) × (rank ≡ 0)) ⊎ (o ≡ Some rank)
-by_cases Root o below rank is = inl (refl, same_rank (Some 0) rank 0 is refl)
 by_cases Unwritten o below rank is = inr (inr is)
-by_cases Dynamic o below rank is = inl (refl, same_rank (Some 0) rank 0 is refl)
 by_cases Private o below rank is = absurd (none_some None rank refl is)
 by_cases Other o true rank is = inr (inl (refl, refl, same_rank (Some 0) rank 0 is refl))
 by_cases Other o false rank is = absurd (none_some None rank refl is)
+by_cases _ o below rank is = inl (refl, same_rank (Some 0) rank 0 is refl)
 
 module _ (f : Flow) where
   -- ---- links and edges

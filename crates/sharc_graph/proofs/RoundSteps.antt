@@ -36,18 +36,12 @@ same_rank o a b first second = let same : Some a ≡ Some b = sym first ∙ seco
 
 -- ---- the rank for a link
 by_kept : (place : PositionKind) (o new : Option ℕ) (below : Bool) (rank : ℕ) → ((r : ℕ) → o ≡ Some r → new ≡ Some r) → rank_by place o below ≡ Some rank → rank_by place new below ≡ Some rank
-by_kept Root o new below rank kept is = is
 by_kept Unwritten o new below rank kept is = kept rank is
-by_kept Dynamic o new below rank kept is = is
-by_kept Private o new below rank kept is = is
-by_kept Other o new below rank kept is = is
+by_kept _ o new below rank kept is = is
 
 by_back : (place : PositionKind) (o new : Option ℕ) (below : Bool) (rank : ℕ) (T : ℕ → Type 0) → ((r : ℕ) → new ≡ Some r → (o ≡ Some r) ⊎ T r) → rank_by place new below ≡ Some rank → (rank_by place o below ≡ Some rank) ⊎ T rank
-by_back Root o new below rank T back is = inl is
 by_back Unwritten o new below rank T back is = back rank is
-by_back Dynamic o new below rank T back is = inl is
-by_back Private o new below rank T back is = inl is
-by_back Other o new below rank T back is = inl is
+by_back _ o new below rank T back is = inl is
 
 -- ---- one position more
 module _ (f : Flow) (ranks : Ranks) (i round : ℕ) (so_far : AreRanks f ranks round i) (inside : i < length f.links) (within : (link_at f.links i).edge.to < length f.places) where
@@ -199,17 +193,11 @@ begun places links ranks is =
 
     first_zero : (place : PositionKind) (r : ℕ) → first_rank place ≡ Some r → r ≡ 0
     first_zero Root r at = same_rank (Some 0) r 0 at refl
-    first_zero Unwritten r at = absurd (none_some None r refl at)
-    first_zero Dynamic r at = absurd (none_some None r refl at)
-    first_zero Private r at = absurd (none_some None r refl at)
-    first_zero Other r at = absurd (none_some None r refl at)
+    first_zero _ r at = absurd (none_some None r refl at)
 
     first_root : (place : PositionKind) (r : ℕ) → first_rank place ≡ Some r → place ≡ Root
     first_root Root r at = refl
-    first_root Unwritten r at = absurd (none_some None r refl at)
-    first_root Dynamic r at = absurd (none_some None r refl at)
-    first_root Private r at = absurd (none_some None r refl at)
-    first_root Other r at = absurd (none_some None r refl at)
+    first_root _ r at = absurd (none_some None r refl at)
 
     found : (p r : ℕ) → first_rank (place_at places p) ≡ Some r → IsFound (flow_of places links) ranks p r
     found p zero at = first_root (place_at places p) 0 at

@@ -7,38 +7,29 @@ graph f = graph_of (map node_of f.places) (kept_edges f.places f.links)
 -- ---- places
 free_is : (x : PositionKind) → (node_of x).free ≡ is_unwritten x
 free_is Root = refl
-free_is Unwritten = refl
-free_is Dynamic = refl
-free_is Private = refl
-free_is Other = refl
+free_is _ = refl
 
 source_cases : (x : PositionKind) → (node_of x).source ≡ true → (is_source x ≡ true) ⊎ (x ≡ Other)
-source_cases Root is = inl refl
 source_cases Unwritten is = absurd (false≢true is)
-source_cases Dynamic is = inl refl
 source_cases Private is = absurd (false≢true is)
 source_cases Other is = inr refl
+source_cases _ is = inl refl
 
 node_from_source : (x : PositionKind) → is_source x ≡ true → (node_of x).source ≡ true
-node_from_source Root is = refl
 node_from_source Unwritten is = is
-node_from_source Dynamic is = refl
 node_from_source Private is = is
-node_from_source Other is = refl
+node_from_source _ is = refl
 
 leads_from_source : (x : PositionKind) (below : Bool) → is_source x ≡ true → leads x below ≡ true
-leads_from_source Root below is = refl
-leads_from_source Unwritten below is = refl
-leads_from_source Dynamic below is = refl
 leads_from_source Private below is = is
 leads_from_source Other below is = absurd (false≢true is)
+leads_from_source _ below is = refl
 
 leads_from_unwritten : (x : PositionKind) (below : Bool) → is_unwritten x ≡ true → leads x below ≡ true
-leads_from_unwritten Root below is = refl
-leads_from_unwritten Unwritten below is = refl
 leads_from_unwritten Dynamic below is = absurd (false≢true is)
 leads_from_unwritten Private below is = is
 leads_from_unwritten Other below is = absurd (false≢true is)
+leads_from_unwritten _ below is = refl
 
 other_is_written : (x : PositionKind) → x ≡ Other → is_unwritten x ≡ true → ⊥
 other_is_written x is unwritten = false≢true (sym (ap is_unwritten is) ∙ unwritten)

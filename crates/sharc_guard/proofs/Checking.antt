@@ -1,5 +1,5 @@
 -- Each access comes after its check.
-use Rattle.sharc_guard.proofs.{Imports.{◌≡◌, ℕ, zero, suc, ◌+◌, ◌-◌, ◌<◌, ◌≤◌, ◌⊎◌, inl, inr, Bool, true, false, List, [], ◌∷◌, ◌++◌, length, map, refl, sym, ap, ◌∙◌, subst, ⊎_elim, arith, Some, None, slice_get, get_or as slice_index_or, cond, cases_lt, append_assoc, length-map, Function, PlaceMode, Dynamic, LockedGlobal, LockedSibling, LockedThrough, LockedLoaded, SourcePlace, Global, Object, Char, Instr, Start, Exit, ChkRead, ChkWrite, ChkLock, ChkLockLoaded, Load, Store, LoadRef, Exchange, TakeCell, no_function, Op, Spot, Flat, Program, source_at, expand, head, body, tail, own, width, offset, place, guarded, entered_at, source_of, check_under, access_of, IsCheckOf, LeadsTo, IsNoTarget, IsAfterCheck, IsCheckedAt}, Placing.{HasAt, width_is, stands, place_next, source_is}, Framing.{there_is, AllIn, all_append, all_at, has_at, get_inside, head_all}}
+use Rattle.sharc_guard.proofs.{Imports.{within as get_inside, ◌≡◌, ℕ, zero, suc, ◌+◌, ◌-◌, ◌<◌, ◌≤◌, ◌⊎◌, inl, inr, Bool, true, false, List, [], ◌∷◌, ◌++◌, length, map, refl, sym, ap, ◌∙◌, subst, ⊎_elim, arith, Some, None, slice_get, cond, cases_lt, append_assoc, length-map, Function, PlaceMode, Dynamic, LockedGlobal, LockedSibling, LockedThrough, LockedLoaded, SourcePlace, Global, Object, Char, Instr, Start, Exit, ChkRead, ChkWrite, ChkLock, ChkLockLoaded, Load, Store, LoadRef, Exchange, TakeCell, Op, Spot, Flat, Program, source_at, expand, head, body, tail, own, width, offset, place, guarded, entered_at, source_of, check_under, access_of, IsCheckOf, LeadsTo, IsNoTarget, IsAfterCheck, IsCheckedAt}, Placing.{HasAt, entered_is, width_is, stands, place_next, source_is}, Framing.{there_is, AllIn, all_append, all_at, has_at, head_all}}
 use Rattle.sharc_guard.specs.Checked.{Access}
 
 -- ---- places grow
@@ -10,12 +10,6 @@ grows dropped k (o ∷ os) (suc n) d =
     let h = grows dropped (k + 1) os n d in
     let z : suc (n + d) ≡ suc n + d = omega arith in
     subst (λ x. width (dropped k) k o + offset dropped (k + 1) os n ≤ offset dropped k (o ∷ os) x) z (omega arith)
-
--- where a function is entered
-pub entry_placed : (pl : ℕ → ℕ) (fs : List Function) (f : ℕ) → f < length fs → (slice_index_or (map (entered_at pl) fs) f no_function).entry ≡ pl (slice_index_or fs f no_function).entry
-entry_placed pl [] f lt = absurd (omega arith)
-entry_placed pl (x ∷ fs) zero lt = refl
-entry_placed pl (x ∷ fs) (suc f) lt = entry_placed pl fs f (omega arith)
 
 module _ (flat : Flat) (dropped : ℕ → Bool) where
   abbrev p : Program
@@ -107,7 +101,7 @@ module _ (flat : Flat) (dropped : ℕ → Bool) where
     jumps = λ q i s h. let k = no_jump q i (pl n + (j + 1)) s h in inner n k.0 j o e lt k.1;
     entries = λ f lf h.
         let l = length-map flat.functions (entered_at pl) in
-        inner n _ j o e lt (sym (entry_placed pl flat.functions f (omega arith)) ∙ h);
+        inner n _ j o e lt (sym (ap (λ (g : Function). g.entry) (entered_is dropped flat f (omega arith))) ∙ h);
   }
 
   behind : (n pc : ℕ) (o : Op) (e : slice_get flat.lines n ≡ Some o) (mode : PlaceMode) (a : Access) (check : Instr) (rest : List Instr) → expand pl (dropped n) n o ≡ check ∷ rest → 0 < length rest → pc ≡ pl n + 1 → IsCheckOf mode a check → IsAfterCheck p pc mode a

@@ -1,5 +1,5 @@
 -- Flat code comes to wherever guarded code comes.
-use Rattle.sharc_guard.proofs.{Imports.{◌≡◌, ℕ, ℤ, pos, zero, suc, ◌+◌, ◌*◌, ◌≤◌, ◌⊎◌, Bool, true, List, [], ◌∷◌, ◌++◌, length, None, refl, sym, ap, ◌∙◌, subst, arith, append-nil, inr, slice_get_past, slice_get, Act, Instr, held_mutexes, event_of, answer_of, Op, Flat, At, Turn, asks, next, function_of, end_turn, line_turn, op_turn, turn, with_event, may_go, at_after, asked_by, asked, Program, Thread, Phase, Running, Leaving, Left, source_at, statement_at, thread_after, IsPath, weight, weight_in, place, guarded, own, body, tail, IsLevel, guarded_asked_by, guarded_asked, is_enter, OverwritesNone, LocksFrom}, Placing.HasAt, Turns.behind, Places.place_of, Beside.beside, Near.{quiet, leaving, Near, Ending, Follow, lands}, Turning.{IsOpenFor, FollowsBy, follows}, Gates.{Passes, GivesNow, Guards}, Phases.{weight_all, Ahead, Behind, Stage, ahead, behind_it, leaves, Bound}, Steps.{statement_is, one_body, StraightBy, straight, quiet_turn, function_site, Coming, Was, PassedBy, landed, own_turn}}
+use Rattle.sharc_guard.proofs.{Imports.{Function, ◌≡◌, ℕ, ℤ, pos, zero, suc, ◌+◌, ◌*◌, ◌≤◌, ◌⊎◌, Bool, true, List, [], ◌∷◌, ◌++◌, length, None, refl, sym, ap, ◌∙◌, subst, arith, append-nil, inr, slice_get_past, slice_get, Act, Instr, held_mutexes, event_of, answer_of, Op, Flat, At, Turn, asks, next, function_of, end_turn, line_turn, op_turn, turn, with_event, may_go, at_after, asked_by, asked, Program, Thread, Phase, Leaving, Left, statement_at, thread_after, IsPath, weight, weight_in, place, guarded, own, body, tail, IsLevel, guarded_asked_by, guarded_asked, is_enter, OverwritesNone, LocksFrom}, Placing.HasAt, Turns.behind, Places.place_of, Beside.beside, Near.{quiet, leaving, Near, Ending, Follow, lands}, Turning.{IsOpenFor, FollowsBy, follows}, Gates.{Passes, GivesNow, Guards}, Phases.{weight_all, Ahead, Behind, Stage, ahead, behind_it, leaves, Bound}, Steps.{statement_is, one_body, StraightBy, straight, quiet_turn, Coming, Was, PassedBy, landed, own_turn}, Placing.{part_is}}
 use Rattle.sharc_guard.specs.Machine as Form
 use Rattle.sharc_guard.specs.Path as Path
 
@@ -188,7 +188,7 @@ module _ (dropped : ℕ → Bool) (flat : Flat) (level : IsLevel flat) where
             ap (λ z. line_turn flat z m) (past m.pc (omega (arith, y.pc_is))) ∙ ap (end_turn flat m) (omega (arith, y.pc_is))
 
         site_same : (Form.function_at p a.function).site ≡ (function_of flat m.function).site
-        site_same = ap (λ n. (Form.function_at p n).site) y.function ∙ function_site dropped flat level flat.functions m.function
+        site_same = ap (λ n. (Form.function_at p n).site) y.function ∙ part_is dropped flat (λ (g : Function). g.site) (λ g. refl) m.function
 
         wh : weight (statement_at p a.pc) ≡ 1
         wh = ap (λ q. weight (statement_at p q)) y.at_exit

@@ -1,5 +1,5 @@
 -- Wherever flat code comes to an access whose check is dropped, the same cell was checked before.
-use Rattle.sharc_guard.proofs.{Imports.{◌≡◌, ◌≢◌, ℕ, ℤ, pos, negsuc, zero, suc, ◌+◌, ◌-◌, ◌*◌, ◌<◌, ◌≤◌, ◌⊎◌, inl, inr, Bool, true, false, not, ◌&&◌, ◌||◌, List, [], ◌∷◌, length, Option, Some, None, Result, Ok, Err, refl, sym, ap, ◌∙◌, subst, arith, cond, ⊎_elim, nat_lt, cases_lt, or_right, or_left, slice_get_past, slice_get-get_or, slice_get, get_or as slice_index_or, ◌==◌, Act, CellAt, CellMode, SourceEvent, Trap, Taken, Kind, Read, Write, Function, Parameter, Cell, computed, negated, holds, word_of, no_function, Register, Replaced, is_zero, cell_of, held_mutexes, holds_mutex, number_of, elements_of, is_positive, Op, Spot, Flat, Caller, At, Turn, goes, asks, put, int, ref, set_int, set_ref, gives_up, next, over_lines, goes_on, stops, asserts, with_result, cell_at, global_cell, cell_mode_of, lock_is_null, accesses, accessed, take_kind_of, indexed, takes_local, called, returned, function_of, first_at, begun, start, end_turn, line_turn, op_turn, turn, with_event, after, may_go, at_after, IsFlatPath as IsPath, IsAccess, is_straight, leads_to, line_leads, is_led_to, is_entry, is_target, writes_ref, writes_int, SimplePlace, in_variable, in_global, assigns, counts, Access, access, is_dynamic, tells, Know, nothing, number_given, copy_given, unless_written, with_element, variable_place, global_place, place_of, is_at, passes_by, know_next, know_after, known, has_passed, drops, drops_at, dropped, IsStraight, Makes, Since, IsCovered, DroppedIsCovered, some_is, and_left, or_either, not_true, and_right, false_true, within, eq_true}, Ready.{put_at, put_other}, Repeating.{eq_same, place_is, dynamic_is, no_some, true_false, constant_is, element_is, unwritten, copy_is, counts_more}, Untargeted.{itself as self}}
+use Rattle.sharc_guard.proofs.{Imports.{◌≡◌, ◌≢◌, ℕ, ℤ, pos, negsuc, zero, suc, ◌+◌, ◌-◌, ◌*◌, ◌<◌, ◌≤◌, ◌⊎◌, inl, inr, Bool, true, false, not, ◌&&◌, ◌||◌, List, [], ◌∷◌, length, Option, Some, None, Result, Ok, Err, refl, sym, ap, ◌∙◌, subst, arith, cond, ⊎_elim, nat_lt, cases_lt, or_right, or_left, slice_get_past, slice_get-get_or, slice_get, get_or as slice_index_or, ◌==◌, Act, CellAt, CellMode, SourceEvent, Trap, Taken, Kind, Read, Write, Function, Parameter, Cell, computed, negated, holds, word_of, no_function, Register, Replaced, is_zero, cell_of, held_mutexes, holds_mutex, number_of, elements_of, is_positive, Op, Spot, Flat, Caller, At, Turn, goes, asks, put, int, ref, set_int, set_ref, gives_up, next, over_lines, goes_on, stops, asserts, with_result, cell_at, global_cell, cell_mode_of, lock_is_null, accesses, accessed, take_kind_of, indexed, takes_local, called, returned, function_of, first_at, begun, start, end_turn, line_turn, op_turn, turn, with_event, after, may_go, at_after, IsFlatPath as IsPath, IsAccess, is_straight, leads_to, is_led_to, is_entry, is_target, writes_ref, writes_int, SimplePlace, in_variable, in_global, assigns, counts, Access, access, is_dynamic, tells, Know, nothing, number_given, copy_given, unless_written, with_element, variable_place, global_place, place_of, is_at, passes_by, know_next, know_after, known, has_passed, drops, drops_at, dropped, IsStraight, Makes, Since, IsCovered, DroppedIsCovered, some_is, and_left, or_either, not_true, and_right, false_true, within, eq_true}, Ready.{put_at, put_other}, Repeating.{eq_same, place_is, dynamic_is, no_some, true_false, constant_is, element_is, unwritten, copy_is, counts_more}, Untargeted.{is_led, itself as self}}
 use Rattle.sharc_tree.specs.declared.event.Object.{Object}
 
 or_false : (a b : Bool) → (a || b) ≡ false → (a ≡ false) × (b ≡ false)
@@ -251,14 +251,6 @@ module _ (flat : Flat) (from : At) where
   abbrev Stepped : ℤ → List ℤ → Op → Type 0
   Stepped x earlier o = NextLine x earlier o ⊎ Elsewhere x earlier
 
-  led : (lines : List Op) (n pc : ℕ) (o : Op) (to : ℕ) → pc < n → slice_get lines pc ≡ Some o → leads_to pc o to ≡ true → is_led_to lines n to ≡ true
-  led lines zero pc o to lt e h = absurd (omega arith)
-  led lines (suc n) pc o to lt e h = ⊎_elim
-      (λ (q : pc < n). or_left (is_led_to lines n to) (line_leads n (slice_get lines n) to) (led lines n pc o to q e h))
-      (λ (q : n ≤ pc). let s : n ≡ pc = omega arith in
-      or_right (is_led_to lines n to) (line_leads n (slice_get lines n) to) (ap (λ j. line_leads j (slice_get lines j) to) s ∙ ap (λ l. line_leads pc l to) e ∙ h))
-      (cases_lt pc n)
-
   target_blank : (to : ℕ) → is_target flat to ≡ true → known flat to ≡ nothing
   target_blank zero e = refl
   target_blank (suc n) e = ap (λ b. cond b nothing (know_after (slice_get flat.lines n) (known flat n))) e
@@ -319,7 +311,7 @@ module _ (flat : Flat) (from : At) where
       goes_away E e h f = inr (record { blank = subst (λ (z : At). (known flat z.pc ≡ nothing) ⊎ (length flat.lines ≤ z.pc)) (sym (here ∙ e)) h; frames = subst (λ (z : At). Blank z.frames) (sym (here ∙ e)) f })
 
       jumps_to : (to : ℕ) → then_ o ≡ record m { pc = to } → leads_to m.pc o to ≡ true → Stepped x earlier o
-      jumps_to to e h = goes_away (record m { pc = to }) e (inl (target_blank to (or_left (is_led_to flat.lines (length flat.lines) to) (is_entry flat.functions to) (led flat.lines (length flat.lines) m.pc o to (within flat.lines m.pc o at_o) at_o h)))) fr
+      jumps_to to e h = goes_away (record m { pc = to }) e (inl (target_blank to (or_left (is_led_to flat.lines (length flat.lines) to) (is_entry flat.functions to) (is_led flat.lines (length flat.lines) m.pc o to (within flat.lines m.pc o at_o) at_o h)))) fr
 
     -- ---- what a turn leads to, where it may go on
     of_result : (i : ℕ) (spot : Spot) (z : Result ℤ Trap) → may_go (with_result i spot m z) ≡ true → (v : ℤ) × (after m (with_result i spot m z) x ≡ next (set_int i v m))

@@ -1,5 +1,5 @@
 -- One operation of flat code and its own guarded statement.
-use Rattle.sharc_guard.proofs.{Imports.{◌≡◌, ℕ, ℤ, zero, suc, pos, negsuc, ◌+◌, ◌*◌, ◌<◌, ◌⊎◌, inl, inr, Bool, true, false, not, List, [], ◌∷◌, ◌++◌, length, map, refl, sym, ap, ◌∙◌, subst, arith, Some, None, Option, Result, Ok, Err, nat_lt, slice_get, get_or as slice_index_or, nat_tests, ne_eqb, length-append, length-map, append-nil, nat_eq, if◌then◌else◌, Act, CellAt, CellMode, SourceEvent, Trap, Taken, Function, SourcePlace, Width, Char, Int, Cell, Object as InObject, ObjectAt, Register, Instr, RaiseLoaded, Lower, MoveReference, LoadRef, TakeCell, Lock, Spawn, Exit, Operator, computed, negated, no_function, elements_made, kind_of, made_cell, Readonly, is_positive as positive, GivenUp, Released, Replaced, Emptied, held_mutexes, locked_by, unlocked_by, NULL, is_null, number_of, stopped, ended, event_of, answer_of, Op, Spot, goes, asks, halts, op_turn, after, IsFlat, Leads, IsWide, Program, Thread, Phase, Running, Leaving, Left, Goes, Asks, Checks, Halts, Stopped, step, source_at, statement_at, weight, source_of, source_at_spot, compute, negate, body, tail, entered_at, Resolved, bottom, image}, Holding.{quiet_held, lock_held, unlock_held, funext}, Placing.{HasAt, pl, p}, Beside.{variable_same, kind_same}}
+use Rattle.sharc_guard.proofs.{Imports.{◌≡◌, ℕ, ℤ, zero, suc, pos, negsuc, ◌+◌, ◌*◌, ◌<◌, ◌⊎◌, inl, inr, Bool, true, false, not, List, [], ◌∷◌, ◌++◌, length, map, refl, sym, ap, ◌∙◌, subst, arith, Some, None, Option, Result, Ok, Err, nat_lt, slice_get, nat_tests, ne_eqb, length-append, length-map, append-nil, nat_eq, if◌then◌else◌, Act, CellAt, CellMode, SourceEvent, Trap, Taken, Function, SourcePlace, Width, Char, Int, Cell, Object as InObject, ObjectAt, Register, Instr, RaiseLoaded, Lower, MoveReference, LoadRef, TakeCell, Lock, Spawn, Exit, Operator, computed, negated, elements_made, kind_of, made_cell, Readonly, is_positive as positive, GivenUp, Released, Replaced, Emptied, held_mutexes, locked_by, unlocked_by, NULL, is_null, number_of, stopped, ended, event_of, answer_of, Op, Spot, goes, asks, halts, op_turn, after, IsFlat, Leads, IsWide, Program, Thread, Phase, Running, Leaving, Left, Goes, Asks, Halts, Stopped, step, source_at, statement_at, weight, source_of, source_at_spot, compute, negate, body, tail, Resolved, bottom, image}, Holding.{quiet_held, lock_held, unlock_held, funext}, Placing.{HasAt, entered_is, pl, p}, Beside.{variable_same, kind_same}}
 use Rattle.sharc_code.specs.{Machine.is_positive, Says.variable_of, Runs.put}
 use Rattle.sharc_flat.specs.Machine as Flat
 use Rattle.sharc_guard.specs.Machine as Form
@@ -149,12 +149,7 @@ module _ (dropped : ℕ → Bool) (flat : Flat.Flat) where
     chosen false m2 m3 c d h k = k
 
     entry_is : (f : ℕ) → f < length flat.functions → (Form.function_at g f).entry ≡ at (Flat.function_of flat f).entry
-    entry_is f lt = there flat.functions f lt
-      where
-        there : (fs : List Function) (f : ℕ) → f < length fs → (slice_index_or (map (entered_at at) fs) f no_function).entry ≡ at (slice_index_or fs f no_function).entry
-        there [] f lt = absurd (omega arith)
-        there (x ∷ fs) zero lt = refl
-        there (x ∷ fs) (suc f) lt = there fs f (omega arith)
+    entry_is f lt = ap (λ (x : Function). x.entry) (entered_is dropped flat f lt)
 
     depth_is : nat_lt (length (map (moved at) m.frames ++ bottom ∷ [])) 256 ≡ nat_lt (length m.frames) 255
     depth_is =

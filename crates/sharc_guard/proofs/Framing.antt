@@ -1,5 +1,5 @@
 -- The guarded code of framed flat code is well formed.
-use Rattle.sharc_guard.proofs.{Imports.{◌≡◌, ℕ, zero, suc, ◌+◌, ◌-◌, ◌*◌, ◌^◌, ◌<◌, ◌≤◌, max, Bool, false, List, [], ◌∷◌, ◌++◌, length, map, fold, refl, sym, ap, ◌∙◌, subst, ⊎_elim, arith, Some, nat_lt, slice_get, get_or as slice_index_or, lt-ltb, le-ltb, cases_lt, length-append, length-map, if◌then◌else◌, Function, Parameter, PlaceMode, Dynamic, LockedGlobal, LockedSibling, LockedThrough, LockedLoaded, GlobalCells, Cell, Register, Char, Int, Instr, Jump, JumpIfZero, JumpIfNull, Call, Return, Start, Exit, ChkRead, ChkWrite, ChkLock, ChkLockLoaded, TestSole, Clear, no_function, IsInGlobal, Op, Spot, Flat, function_of, OpWrites, InLine, OpLeads, IsFramed, WritesWithin, BaseWithin, HandedWithin, HasFewCells, IsBody, IsAtPlace, IsEntry, IsGuarded, Program, function_at, expand, head, body, tail, own, width, offset, place, expanded, guarded, entered_at, check_under}, Placing.{HasAt, width_is, stands, place_next}, Walking.{IsIdle, idle_length, bodied, line_at as line_there}}
+use Rattle.sharc_guard.proofs.{Imports.{within as get_inside, slice_get-get_or, ◌≡◌, ℕ, zero, suc, ◌+◌, ◌-◌, ◌*◌, ◌^◌, ◌<◌, ◌≤◌, max, Bool, false, List, [], ◌∷◌, ◌++◌, length, map, fold, refl, sym, ap, ◌∙◌, subst, ⊎_elim, arith, Some, nat_lt, slice_get, lt-ltb, le-ltb, cases_lt, length-append, length-map, if◌then◌else◌, Function, Parameter, PlaceMode, Dynamic, LockedGlobal, LockedSibling, LockedThrough, LockedLoaded, GlobalCells, Cell, Register, Char, Int, Instr, Jump, JumpIfZero, JumpIfNull, Call, Return, Start, Exit, ChkRead, ChkWrite, ChkLock, ChkLockLoaded, TestSole, Clear, IsInGlobal, Op, Spot, Flat, function_of, OpWrites, InLine, OpLeads, IsFramed, WritesWithin, BaseWithin, HandedWithin, HasFewCells, IsBody, IsAtPlace, IsEntry, IsGuarded, Program, function_at, expand, head, body, tail, own, width, offset, place, expanded, guarded, entered_at, check_under}, Placing.{HasAt, entered_is, part_is, width_is, stands, place_next}, Walking.{IsIdle, idle_length, bodied}}
 use Rattle.sharc_guard.specs.Form.{Leads, HasParameter}
 use Rattle.sharc_flat.specs.Framed as Framed
 
@@ -67,16 +67,6 @@ pub has_at : (g : List Instr) (pc : ℕ) (is : List Instr) (j : ℕ) → HasAt g
 has_at g pc [] j h lt = absurd (omega arith)
 has_at g pc (i ∷ is) zero h lt = let z : pc + 0 ≡ pc = omega arith in ap (slice_get g) z ∙ h.0
 has_at g pc (i ∷ is) (suc j) h lt = let z : pc + suc j ≡ pc + 1 + j = omega arith in ap (slice_get g) z ∙ has_at g (pc + 1) is j h.1 (omega arith)
-
-get_there : (xs : List Instr) (j : ℕ) → j < length xs → (i : Instr) × (slice_get xs j ≡ Some i)
-get_there [] j lt = absurd (omega arith)
-get_there (x ∷ xs) zero lt = (x, refl)
-get_there (x ∷ xs) (suc j) lt = get_there xs j (omega arith)
-
-pub get_inside : (xs : List Instr) (j : ℕ) (i : Instr) → slice_get xs j ≡ Some i → j < length xs
-get_inside [] j i e = absurd (cc)
-get_inside (x ∷ xs) zero i e = omega arith
-get_inside (x ∷ xs) (suc j) i e = let h = get_inside xs j i e in omega arith
 
 -- a statement that leads to the next one alone
 abbrev IsPlain : Instr → Type 0
@@ -210,28 +200,10 @@ module _ (flat : Flat) (dropped : ℕ → Bool) (framed : IsFramed flat) where
 
   -- the registers of a function are those that flat code has
   ints_same : (f : ℕ) → (function_at p f).ints ≡ (function_of flat f).ints
-  ints_same f = there flat.functions f
-    where
-      there : (fs : List Function) (f : ℕ) → (slice_index_or (map (entered_at pl) fs) f no_function).ints ≡ (slice_index_or fs f no_function).ints
-      there [] f = refl
-      there (x ∷ fs) zero = refl
-      there (x ∷ fs) (suc f) = there fs f
+  ints_same = part_is dropped flat (λ (g : Function). g.ints) (λ g. refl)
 
   refs_same : (f : ℕ) → (function_at p f).refs ≡ (function_of flat f).refs
-  refs_same f = there flat.functions f
-    where
-      there : (fs : List Function) (f : ℕ) → (slice_index_or (map (entered_at pl) fs) f no_function).refs ≡ (slice_index_or fs f no_function).refs
-      there [] f = refl
-      there (x ∷ fs) zero = refl
-      there (x ∷ fs) (suc f) = there fs f
-
-  function_same : (f : ℕ) → f < length flat.functions → function_at p f ≡ entered_at pl (function_of flat f)
-  function_same f lt = there flat.functions f lt
-    where
-      there : (fs : List Function) (f : ℕ) → f < length fs → slice_index_or (map (entered_at pl) fs) f no_function ≡ entered_at pl (slice_index_or fs f no_function)
-      there [] f lt = absurd (omega arith)
-      there (x ∷ fs) zero lt = refl
-      there (x ∷ fs) (suc f) lt = there fs f (omega arith)
+  refs_same = part_is dropped flat (λ (g : Function). g.refs) (λ g. refl)
 
   -- ---- places of a line
   owner_is : (n j : ℕ) (o : Op) → slice_get flat.lines n ≡ Some o → j < width (dropped n) n o → owner (pl n + j) ≡ framed.owner n
@@ -247,17 +219,17 @@ module _ (flat : Flat) (dropped : ℕ → Bool) (framed : IsFramed flat) where
   in_body : (n j : ℕ) (o : Op) → slice_get flat.lines n ≡ Some o → j < width (dropped n) n o → IsBody p owner (framed.owner n) (pl n + j)
   in_body n j o e lt =
       let w = width_is pl (dropped n) n o in
-      let i = get_there (expand pl (dropped n) n o) j (omega arith) in
+      let i = slice_get-get_or (expand pl (dropped n) n o) j Exit (omega arith) in
       record {
         behind = omega arith;
-        inside = get_inside p.statements (pl n + j) i.0 (statement_there n j o e lt ∙ i.1);
+        inside = get_inside p.statements (pl n + j) _ (statement_there n j o e lt ∙ i);
         owned = owner_is n j o e lt;
       }
 
   -- where a line goes there is a statement of its function
   begins : (fuel n : ℕ) → n < length flat.lines → length flat.lines ≤ n + fuel → IsBody p owner (framed.owner n) (pl n)
   begins zero n lt le = absurd (omega arith)
-  begins (suc fuel) n lt le = at_line (line_there flat.lines n lt) (λ k e. begins fuel (n + 1) k (omega arith))
+  begins (suc fuel) n lt le = at_line (_, slice_get-get_or flat.lines n Op.Enter lt) (λ k e. begins fuel (n + 1) k (omega arith))
     where
       at_line : (o : Op) × (slice_get flat.lines n ≡ Some o) → (n + 1 < length flat.lines → framed.owner (n + 1) ≡ framed.owner n → IsBody p owner (framed.owner (n + 1)) (pl (n + 1))) → IsBody p owner (framed.owner n) (pl n)
       at_line s rec = by_kind s.0 s.1
@@ -380,7 +352,7 @@ module _ (flat : Flat) (dropped : ℕ → Bool) (framed : IsFramed flat) where
       let l = length-map flat.functions (entered_at pl) in
       let lf : f < length flat.functions = omega arith in
       let en = framed.entries f lf in
-      let same = function_same f lf in
+      let same = entered_is dropped flat f lf in
       record {
         body = subst (λ (fn : Function). IsBody p owner f fn.entry) (sym same) (line_begins f (function_of flat f).entry en.0);
         parameter = subst (λ (fn : Function). HasParameter fn fn.parameter) (sym same) (moved_parameter (function_of flat f) (function_of flat f).parameter en.1);

@@ -1,5 +1,5 @@
 -- What comes before an operation's own statement: it passes, or stops where flat code stops.
-use Rattle.sharc_guard.proofs.{Imports.{◌≡◌, ℕ, ℤ, pos, ◌+◌, Bool, true, false, List, [], ◌∷◌, refl, sym, ap, ◌∙◌, subst, if◌then◌else◌, Act, CellAt, CellMode, Taken, Trap, PlaceMode, Dynamic, LockedGlobal, LockedSibling, LockedThrough, LockedLoaded, Cell, Global, Object, Instr, ChkRead, ChkWrite, ChkLock, ChkLockLoaded, TestSole, Clear, Replaced, Emptied, number_of, stopped, Op, Spot, goes, asks, halts, op_turn, Thread, Goes, Asks, Checks, Halts, Stopped, step, weight, source_of, check_under, head, image}, Follows.{g, at, Unlocked}}
+use Rattle.sharc_guard.proofs.{Imports.{◌≡◌, ℕ, ℤ, pos, ◌+◌, Bool, true, false, List, [], ◌∷◌, refl, sym, ap, ◌∙◌, subst, if◌then◌else◌, Act, CellAt, CellMode, Taken, Trap, PlaceMode, Dynamic, LockedGlobal, LockedSibling, LockedThrough, LockedLoaded, Cell, Global, Object, Instr, ChkRead, ChkWrite, ChkLock, ChkLockLoaded, TestSole, Clear, Replaced, Emptied, number_of, stopped, Op, Spot, asks, halts, op_turn, Thread, Goes, Checks, Halts, Stopped, step, weight, source_of, check_under, head, image}, Follows.{g, at, Unlocked}}
 use Rattle.sharc_flat.specs.Machine as Flat
 use Rattle.sharc_guard.specs.Machine as Form
 use Rattle.sharc_guard.specs.Machine.{Turn}

@@ -34,11 +34,6 @@ pub place_none : (d : ℕ → Bool) (lines : List Op) → 2 ≡ place d lines 0
 place_none d [] = refl
 place_none d (o ∷ os) = refl
 
-pub got : (lines : List Op) (n : ℕ) (d : Op) → n < length lines → slice_get lines n ≡ Some (get_or lines n d)
-got [] n d lt = absurd (omega arith)
-got (x ∷ os) zero d lt = refl
-got (x ∷ os) (suc n) d lt = got os n d (omega arith)
-
 -- ---- where the lines go, from the list
 length_places : (d : ℕ → Bool) (lines : List Op) (n : ℕ) → length (places d lines n) ≡ n
 length_places d lines zero = refl

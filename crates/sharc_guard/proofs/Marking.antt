@@ -1,5 +1,5 @@
 -- The notes of the pass say what is known.
-use Rattle.sharc_guard.proofs.{Imports.{fun_ext, ◌≡◌, ◌≢◌, ℕ, ◌+◌, ◌<◌, ◌≤◌, Bool, true, false, not, ◌&&◌, ◌||◌, Option, Some, None, refl, sym, ap, ◌∙◌, arith, cond, nat_lt, nat_tests, ◌==◌, nat_le, Kind, Read, Write, Op, Copied, KnownNumber, PassedCheck, Copying, writes_ref, writes_int, SimplePlace, in_variable, in_global, same_place, assigns, counts, Access, access, tells, Know, nothing, number_given, copy_given, unless_written, with_element, place_of, is_at, passes_by, know_next, copy_of, number_of_line, Notes, or_never, copy_by, number_by, passed_by, passed_at, know_of, with_written, with_copy, with_number, stronger, with_place, with_access, CopyBefore, NumberBefore, PassedBefore, AreBefore, or_false, and_false, and_true, some_is, eqb_other as eq_other, lt_true, eq_true, le_true}, Repeating.{eq_same, true_false}}
+use Rattle.sharc_guard.proofs.{Imports.{fun_ext, ◌≡◌, ◌≢◌, ℕ, ◌+◌, ◌<◌, ◌≤◌, Bool, true, false, not, ◌&&◌, ◌||◌, Option, Some, None, refl, sym, ap, ◌∙◌, arith, cond, nat_lt, nat_tests, ◌==◌, nat_le, Kind, Read, Write, Op, Copied, KnownNumber, PassedCheck, Copying, writes_ref, writes_int, SimplePlace, in_variable, in_global, same_place, assigns, counts, Access, access, tells, Know, nothing, number_given, copy_given, unless_written, with_element, place_of, is_at, passes_by, know_next, copy_of, number_of_line, Notes, or_never, copy_by, number_by, passed_by, passed_at, know_of, with_written, with_copy, with_number, stronger, with_place, with_access, CopyBefore, NumberBefore, PassedBefore, AreBefore, or_false, and_false, and_true, and_left, and_right, some_is, eqb_other as eq_other, lt_true, eq_true, le_true}, Repeating.{eq_same, true_false}}
 use Rattle.sharc_guard.specs.Marked.{access_of}
 
 -- ---- tests
@@ -36,6 +36,14 @@ pub record AreUpTo (t : ℕ) (s : Notes) : Type 0 where
 passed_later : (t : ℕ) (q : Option PassedCheck) → PassedBefore t q → PassedBefore (t + 1) q
 passed_later t None h = tt
 passed_later t (Some p) h = omega arith
+
+copy_later : (t : ℕ) (q : Option Copied) → CopyBefore t q → CopyBefore (t + 1) q
+copy_later t None h = tt
+copy_later t (Some c) h = omega arith
+
+number_later : (t : ℕ) (q : Option KnownNumber) → NumberBefore t q → NumberBefore (t + 1) q
+number_later t None h = tt
+number_later t (Some n) h = omega arith
 
 -- ---- what an operation writes
 module _ (o : Op) (t : ℕ) (a : Notes) (b : AreUpTo t a) where
@@ -180,7 +188,7 @@ module _ (o : Op) (t : ℕ) (a : Notes) (b : AreUpTo t a) where
   written_before_next registers ints v = record {
     floor = let h = b.floor in omega arith;
     written = written_before;
-    copies = λ k. copy_later (a.copies k) (b.copies k);
+    copies = λ k. copy_later t (a.copies k) (b.copies k);
     numbers = numbers_before;
     in_variables = b.in_variables;
     in_globals = b.in_globals;
@@ -193,20 +201,12 @@ module _ (o : Op) (t : ℕ) (a : Notes) (b : AreUpTo t a) where
           by true = omega arith
           by false = let h = b.written k in omega arith
 
-      copy_later : (q : Option Copied) → CopyBefore t q → CopyBefore (t + 1) q
-      copy_later None h = tt
-      copy_later (Some c) h = omega arith
-
-      number_later : (q : Option KnownNumber) → NumberBefore t q → NumberBefore (t + 1) q
-      number_later None h = tt
-      number_later (Some n) h = omega arith
-
       numbers_before : (k : ℕ) → NumberBefore (t + 1) (cond (ints k) (Some record { number = v; made = t }) (a.numbers k))
       numbers_before k = by (ints k)
         where
           by : (z : Bool) → NumberBefore (t + 1) (cond z (Some record { number = v; made = t }) (a.numbers k))
           by true = omega arith
-          by false = number_later (a.numbers k) (b.numbers k)
+          by false = number_later t (a.numbers k) (b.numbers k)
 
   all_before : (registers ints : ℕ → Bool) (v : Option ℕ) (q : Option Copying) → AreBefore (t + 1) (with_number ints v t (with_copy q t (with_written registers t a)))
   all_before registers ints v None = written_before_next registers ints v
@@ -214,16 +214,12 @@ module _ (o : Op) (t : ℕ) (a : Notes) (b : AreUpTo t a) where
       let h = written_before_next registers ints v in
       record { floor = h.floor; written = h.written; copies = copies_before; numbers = h.numbers; in_variables = h.in_variables; in_globals = h.in_globals }
     where
-      copy_later : (q : Option Copied) → CopyBefore t q → CopyBefore (t + 1) q
-      copy_later None h = tt
-      copy_later (Some c) h = omega arith
-
       copies_before : (k : ℕ) → CopyBefore (t + 1) (cond (k == c.register) (Some record { variable = c.variable; made = t }) (a.copies k))
       copies_before k = by (k == c.register)
         where
           by : (z : Bool) → CopyBefore (t + 1) (cond z (Some record { variable = c.variable; made = t }) (a.copies k))
           by true = omega arith
-          by false = copy_later (a.copies k) (b.copies k)
+          by false = copy_later t (a.copies k) (b.copies k)
 
 -- ---- what an access checks
 -- a check that is noted anew counts for what it or the older one counts for
@@ -247,38 +243,21 @@ module _ (t : ℕ) (s : Notes) (b : AreBefore t s) where
   abbrev k : Know
   k = know_of s
 
+  -- a note of a check, with the older one of its place, where the place is this
+  noted_if : (last : ℕ) → last < t → (q : Option PassedCheck) (older : Bool) (kind other : Kind) (here : Bool) → (here ≡ true → older ≡ passed_by s.floor last Write q)
+      → passed_by s.floor last other (cond here (Some record { kind = stronger older kind; made = t }) q) ≡ (passed_by s.floor last other q || (counts kind other && here))
+  noted_if last lt q older kind other true e =
+      ap (λ z. z && (nat_lt last t && counts (stronger older kind) other)) (lt_true s.floor t b.floor) ∙ ap (λ z. z && counts (stronger older kind) other) (lt_true last t lt)
+      ∙ ap (λ z. counts (stronger z kind) other) (e refl) ∙ counted s.floor last q kind other
+  noted_if last lt q older kind other false e = sym (ap (λ z. passed_by s.floor last other q || z) (and_false (counts kind other)) ∙ or_false (passed_by s.floor last other q))
+
   placed : (kind : Kind) (p : SimplePlace) (other : Kind) (place : SimplePlace) → passed_at (with_place kind (Some p) t s) other place ≡ (passed_at s other place || (counts kind other && same_place p place))
-  placed kind (in_variable x n) other (in_variable y j) = by (x == y) (n == j) refl refl
-    where
-      by : (z w : Bool) → (x == y) ≡ z → (n == j) ≡ w
-          → passed_by s.floor (or_never (s.written y)) other (cond (z && w) (Some record { kind = stronger (passed_at s Write (in_variable x n)) kind; made = t }) (s.in_variables y j))
-          ≡ (passed_by s.floor (or_never (s.written y)) other (s.in_variables y j) || (counts kind other && (z && w)))
-      by true true ez ew =
-          let ex : x ≡ y = eq_true x y ez in
-          let en : n ≡ j = eq_true n j ew in
-          let same : passed_at s Write (in_variable x n) ≡ passed_at s Write (in_variable y j) = ap (λ x. passed_at s Write (in_variable x n)) ex ∙ ap (λ n. passed_at s Write (in_variable y n)) en in
-          ap (λ z. z && (nat_lt (or_never (s.written y)) t && counts (stronger (passed_at s Write (in_variable x n)) kind) other)) (lt_true s.floor t b.floor)
-          ∙ ap (λ z. z && counts (stronger (passed_at s Write (in_variable x n)) kind) other) (lt_true (or_never (s.written y)) t (b.written y))
-          ∙ ap (λ z. counts (stronger z kind) other) same ∙ counted s.floor (or_never (s.written y)) (s.in_variables y j) kind other
-      by true false ez ew = sym (ap (λ z. passed_by s.floor (or_never (s.written y)) other (s.in_variables y j) || z) (and_false (counts kind other)) ∙ or_false (passed_by s.floor (or_never (s.written y)) other (s.in_variables y j)))
-      by false w ez ew = sym (ap (λ z. passed_by s.floor (or_never (s.written y)) other (s.in_variables y j) || z) (and_false (counts kind other)) ∙ or_false (passed_by s.floor (or_never (s.written y)) other (s.in_variables y j)))
-  placed kind (in_global x n) other (in_global y j) = by (x == y) (n == j) refl refl
-    where
-      by : (z w : Bool) → (x == y) ≡ z → (n == j) ≡ w
-          → passed_by s.floor 0 other (cond (z && w) (Some record { kind = stronger (passed_at s Write (in_global x n)) kind; made = t }) (s.in_globals y j))
-          ≡ (passed_by s.floor 0 other (s.in_globals y j) || (counts kind other && (z && w)))
-      by true true ez ew =
-          let ex : x ≡ y = eq_true x y ez in
-          let en : n ≡ j = eq_true n j ew in
-          let f = b.floor in
-          let same : passed_at s Write (in_global x n) ≡ passed_at s Write (in_global y j) = ap (λ x. passed_at s Write (in_global x n)) ex ∙ ap (λ n. passed_at s Write (in_global y n)) en in
-          ap (λ z. z && (nat_lt 0 t && counts (stronger (passed_at s Write (in_global x n)) kind) other)) (lt_true s.floor t b.floor)
-          ∙ ap (λ z. z && counts (stronger (passed_at s Write (in_global x n)) kind) other) (lt_true 0 t (omega arith))
-          ∙ ap (λ z. counts (stronger z kind) other) same ∙ counted s.floor 0 (s.in_globals y j) kind other
-      by true false ez ew = sym (ap (λ z. passed_by s.floor 0 other (s.in_globals y j) || z) (and_false (counts kind other)) ∙ or_false (passed_by s.floor 0 other (s.in_globals y j)))
-      by false w ez ew = sym (ap (λ z. passed_by s.floor 0 other (s.in_globals y j) || z) (and_false (counts kind other)) ∙ or_false (passed_by s.floor 0 other (s.in_globals y j)))
-  placed kind (in_variable x n) other (in_global y j) = sym (ap (λ z. passed_by s.floor 0 other (s.in_globals y j) || z) (and_false (counts kind other)) ∙ or_false (passed_by s.floor 0 other (s.in_globals y j)))
-  placed kind (in_global x n) other (in_variable y j) = sym (ap (λ z. passed_by s.floor (or_never (s.written y)) other (s.in_variables y j) || z) (and_false (counts kind other)) ∙ or_false (passed_by s.floor (or_never (s.written y)) other (s.in_variables y j)))
+  placed kind (in_variable x n) other (in_variable y j) = noted_if (or_never (s.written y)) (b.written y) (s.in_variables y j) (passed_at s Write (in_variable x n)) kind other (x == y && n == j)
+      (λ h. ap (λ x. passed_at s Write (in_variable x n)) (eq_true x y (and_left (x == y) (n == j) h)) ∙ ap (λ n. passed_at s Write (in_variable y n)) (eq_true n j (and_right (x == y) (n == j) h)))
+  placed kind (in_global x n) other (in_global y j) = noted_if 0 (let f = b.floor in omega arith) (s.in_globals y j) (passed_at s Write (in_global x n)) kind other (x == y && n == j)
+      (λ h. ap (λ x. passed_at s Write (in_global x n)) (eq_true x y (and_left (x == y) (n == j) h)) ∙ ap (λ n. passed_at s Write (in_global y n)) (eq_true n j (and_right (x == y) (n == j) h)))
+  placed kind (in_variable x n) other (in_global y j) = noted_if 0 (let f = b.floor in omega arith) (s.in_globals y j) false kind other false (λ h. absurd (cc))
+  placed kind (in_global x n) other (in_variable y j) = noted_if (or_never (s.written y)) (b.written y) (s.in_variables y j) false kind other false (λ h. absurd (cc))
 
   -- what an access leaves
   pub record Noted (q : Option Access) (a : Notes) : Type 0 where
@@ -305,39 +284,27 @@ module _ (t : ℕ) (s : Notes) (b : AreBefore t s) where
     before = up_to;
   }
 
+  passes_at : (a : Access) (p : SimplePlace) → tells a.spot ≡ true → place_of k a.cell ≡ Some p → (kind : Kind) (place : SimplePlace) → (passed_at s kind place || (counts a.kind kind && same_place p place)) ≡ (k.passed kind place || passes_by (Some a) k kind place)
+  passes_at a p et e kind place = ap (λ z. passed_at s kind place || (counts a.kind kind && z)) (same_turned p place)
+      ∙ sym (ap (λ z. passed_at s kind place || (z && (counts a.kind kind && is_at (place_of k a.cell) place))) et ∙ ap (λ q. passed_at s kind place || (counts a.kind kind && is_at q place)) e)
+
+  now_or_before : (here : Bool) (kind : Kind) (q : Option PassedCheck) → PassedBefore (t + 1) q → PassedBefore (t + 1) (cond here (Some record { kind = kind; made = t }) q)
+  now_or_before true kind q h = omega arith
+  now_or_before false kind q h = h
+
   at_place : (a : Access) (p : SimplePlace) → tells a.spot ≡ true → place_of k a.cell ≡ Some p → Noted (Some a) (with_place a.kind (Some p) t s)
   at_place a (in_variable x n) et e = record {
     copies = refl;
     numbers = refl;
-    passed = λ kind place. placed a.kind (in_variable x n) kind place ∙ same kind place;
-    before = record { floor = b.floor; written = b.written; copies = b.copies; numbers = b.numbers; in_variables = there; in_globals = up_to.in_globals };
+    passed = λ kind place. placed a.kind (in_variable x n) kind place ∙ passes_at a (in_variable x n) et e kind place;
+    before = record { floor = b.floor; written = b.written; copies = b.copies; numbers = b.numbers; in_globals = up_to.in_globals; in_variables = λ y j. now_or_before (x == y && n == j) (stronger (passed_at s Write (in_variable x n)) a.kind) (s.in_variables y j) (up_to.in_variables y j) };
   }
-    where
-      same : (kind : Kind) (place : SimplePlace) → (passed_at s kind place || (counts a.kind kind && same_place (in_variable x n) place)) ≡ (k.passed kind place || passes_by (Some a) k kind place)
-      same kind place = ap (λ z. passed_at s kind place || (counts a.kind kind && z)) (same_turned (in_variable x n) place) ∙ sym (ap (λ z. passed_at s kind place || (z && (counts a.kind kind && is_at (place_of k a.cell) place))) et ∙ ap (λ q. passed_at s kind place || (counts a.kind kind && is_at q place)) e)
-
-      there : (y j : ℕ) → PassedBefore (t + 1) (cond (x == y && n == j) (Some record { kind = stronger (passed_at s Write (in_variable x n)) a.kind; made = t }) (s.in_variables y j))
-      there y j = by (x == y && n == j)
-        where
-          by : (z : Bool) → PassedBefore (t + 1) (cond z (Some record { kind = stronger (passed_at s Write (in_variable x n)) a.kind; made = t }) (s.in_variables y j))
-          by true = omega arith
-          by false = up_to.in_variables y j
   at_place a (in_global x n) et e = record {
     copies = refl;
     numbers = refl;
-    passed = λ kind place. placed a.kind (in_global x n) kind place ∙ same kind place;
-    before = record { floor = b.floor; written = b.written; copies = b.copies; numbers = b.numbers; in_variables = up_to.in_variables; in_globals = there };
+    passed = λ kind place. placed a.kind (in_global x n) kind place ∙ passes_at a (in_global x n) et e kind place;
+    before = record { floor = b.floor; written = b.written; copies = b.copies; numbers = b.numbers; in_variables = up_to.in_variables; in_globals = λ y j. now_or_before (x == y && n == j) (stronger (passed_at s Write (in_global x n)) a.kind) (s.in_globals y j) (up_to.in_globals y j) };
   }
-    where
-      same : (kind : Kind) (place : SimplePlace) → (passed_at s kind place || (counts a.kind kind && same_place (in_global x n) place)) ≡ (k.passed kind place || passes_by (Some a) k kind place)
-      same kind place = ap (λ z. passed_at s kind place || (counts a.kind kind && z)) (same_turned (in_global x n) place) ∙ sym (ap (λ z. passed_at s kind place || (z && (counts a.kind kind && is_at (place_of k a.cell) place))) et ∙ ap (λ q. passed_at s kind place || (counts a.kind kind && is_at q place)) e)
-
-      there : (y j : ℕ) → PassedBefore (t + 1) (cond (x == y && n == j) (Some record { kind = stronger (passed_at s Write (in_global x n)) a.kind; made = t }) (s.in_globals y j))
-      there y j = by (x == y && n == j)
-        where
-          by : (z : Bool) → PassedBefore (t + 1) (cond z (Some record { kind = stronger (passed_at s Write (in_global x n)) a.kind; made = t }) (s.in_globals y j))
-          by true = omega arith
-          by false = up_to.in_globals y j
 
   noted : (q : Option Access) → Noted q (with_access (access_of q) t s)
   noted None = unchanged None (λ kind place. refl)
@@ -407,16 +374,8 @@ module _ (t : ℕ) (s : Notes) (b : AreBefore t s) where
   ended_before = record {
     floor = omega arith;
     written = λ k. let h = b.written k in omega arith;
-    copies = λ k. copy_later (s.copies k) (b.copies k);
-    numbers = λ k. number_later (s.numbers k) (b.numbers k);
+    copies = λ k. copy_later t (s.copies k) (b.copies k);
+    numbers = λ k. number_later t (s.numbers k) (b.numbers k);
     in_variables = λ x n. passed_later t (s.in_variables x n) (b.in_variables x n);
     in_globals = λ g n. passed_later t (s.in_globals g n) (b.in_globals g n);
   }
-    where
-      copy_later : (q : Option Copied) → CopyBefore t q → CopyBefore (t + 1) q
-      copy_later None h = tt
-      copy_later (Some c) h = omega arith
-
-      number_later : (q : Option KnownNumber) → NumberBefore t q → NumberBefore (t + 1) q
-      number_later None h = tt
-      number_later (Some n) h = omega arith

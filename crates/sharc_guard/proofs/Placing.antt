@@ -1,5 +1,5 @@
 -- Where the statements of lines lie.
-use Rattle.sharc_guard.proofs.Imports.{◌≡◌, ℕ, zero, suc, ◌+◌, Bool, List, [], ◌∷◌, ◌++◌, length, map, refl, sym, ap, ◌∙◌, subst, arith, Some, slice_get, get_or as slice_index_or, length-append, Instr, Start, Exit, SourcePlace, Op, Flat, Program, statement_at, source_at, expand, width, offset, place, expanded, guarded, source_of, head, own, body, tail}
+use Rattle.sharc_guard.proofs.Imports.{get_or-map, get_or_from_slice_get, ◌≡◌, ℕ, zero, suc, ◌+◌, ◌<◌, Bool, List, [], ◌∷◌, ◌++◌, length, map, refl, sym, ap, ◌∙◌, subst, arith, Some, slice_get, get_or as slice_index_or, length-append, Function, no_function, function_at, function_of, entered_at, Instr, Start, Exit, SourcePlace, Op, Flat, Program, statement_at, source_at, expand, width, offset, place, expanded, guarded, source_of, head, own, body, tail}
 
 -- the statements lie in the list from a place on
 abbrev pub HasAt : List Instr → ℕ → List Instr → Type 0
@@ -69,6 +69,11 @@ source_there [] n o d e = absurd (cc)
 source_there (x ∷ os) zero o d e = let s : x ≡ o = cc in ap source_of s
 source_there (x ∷ os) (suc n) o d e = source_there os n o d e
 
+part_in : {A : Type 0} (part : Function → A) (pl : ℕ → ℕ) → ((g : Function) → part (entered_at pl g) ≡ part g) → (fs : List Function) (f : ℕ) → part (slice_index_or (map (entered_at pl) fs) f no_function) ≡ part (slice_index_or fs f no_function)
+part_in part pl same [] f = refl
+part_in part pl same (g ∷ fs) zero = same g
+part_in part pl same (g ∷ fs) (suc f) = part_in part pl same fs f
+
 module _ (dropped : ℕ → Bool) (flat : Flat) where
   abbrev pub pl : ℕ → ℕ
   pl = place dropped flat.lines
@@ -89,12 +94,14 @@ module _ (dropped : ℕ → Bool) (flat : Flat) where
       omega arith
 
   pub statement_is : (pc : ℕ) (i : Instr) → slice_get p.statements pc ≡ Some i → statement_at p pc ≡ i
-  statement_is pc i e = there p.statements pc e
-    where
-      there : (g : List Instr) (pc : ℕ) → slice_get g pc ≡ Some i → slice_index_or g pc Exit ≡ i
-      there [] pc e = absurd (cc)
-      there (x ∷ g) zero e = cc
-      there (x ∷ g) (suc pc) e = there g pc e
+  statement_is pc i e = get_or_from_slice_get p.statements pc i Exit e
 
   pub source_is : (n : ℕ) (o : Op) → slice_get flat.lines n ≡ Some o → source_at p n ≡ source_of o
   source_is n o e = source_there flat.lines n o _ e
+
+  -- a function is that of flat code, entered where its first line has gone
+  pub entered_is : (f : ℕ) → f < length flat.functions → function_at p f ≡ entered_at pl (function_of flat f)
+  entered_is f lt = get_or-map (entered_at pl) flat.functions f no_function no_function lt
+
+  pub part_is : {A : Type 0} (part : Function → A) → ((g : Function) → part (entered_at pl g) ≡ part g) → (f : ℕ) → part (function_at p f) ≡ part (function_of flat f)
+  part_is part same f = part_in part pl same flat.functions f

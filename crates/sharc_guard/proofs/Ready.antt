@@ -1,5 +1,5 @@
 -- What flat code that is level has at each place: it is one of its function, and the registers hold what they are said to hold.
-use Rattle.sharc_guard.proofs.Imports.{fun_ext, ◌≡◌, ℕ, ℤ, pos, zero, ◌+◌, ◌-◌, ◌<◌, ◌≤◌, true, List, [], ◌∷◌, length, refl, sym, ap, ◌∙◌, subst, arith, ⊎_elim, cases_eq, cases_lt, ◌==◌, is_zero, Flat, Caller, At, put, function_of, ref, called, Slot, free, full, Fits, Slots, with_slot, with_moved, result_slot, Enters, Calls, Resumes, Leaves, IsLevel, eqb_same, eqb_other}
+use Rattle.sharc_guard.proofs.Imports.{fun_ext, ◌≡◌, ℕ, ℤ, pos, zero, ◌+◌, ◌-◌, ◌<◌, ◌≤◌, true, List, [], ◌∷◌, length, refl, sym, ap, ◌∙◌, subst, arith, ⊎_elim, cases_eq, cases_lt, is_zero, Flat, Caller, At, put, function_of, ref, called, Slot, free, full, Fits, Slots, with_slot, with_moved, result_slot, Enters, Calls, Resumes, Leaves, IsLevel, eqb_same, eqb_other}
 
 pub put_at : (bank : ℕ → ℤ) (r k : ℕ) (v : ℤ) → k ≡ r → put bank r v k ≡ v
 put_at bank r k v e = subst (λ n. put bank r v n ≡ v) (sym e) (rw (eqb_same r) refl)

@@ -1,13 +1,11 @@
 -- One more turn of guarded code.
-use Rattle.sharc_guard.proofs.{Imports.{◌≡◌, ℕ, ℤ, zero, suc, ◌+◌, ◌*◌, ◌≤◌, ◌⊎◌, inl, inr, Bool, true, List, [], ◌∷◌, ◌++◌, length, map, Some, refl, sym, ap, ◌∙◌, subst, arith, ⊎_elim, slice_get, get_or as slice_index_or, Function, Instr, RaiseLoaded, Lower, MoveReference, Exit, Char, Int, Long, Op, Flat, At, Turn, goes, asks, halts, turn, op_turn, may_go, at_after, IsFlatPath, asked_by, asked, Program, Thread, Phase, Running, Leaving, Left, source_at, statement_at, thread_after, IsPath, weight, weight_in, place, guarded, entered_at, head, own, body, tail, Tells, LocksFrom, IsLevel, guarded_asked_by, guarded_asked, is_enter, moves}, Placing.HasAt, Gates.GivesNow, Turns.behind, Near.{quiet, IsQuiet, Near, Ending, Follow}, Phases.{IsMoving, Stage, ahead, behind_it, leaves, Bound, opens, enters_all}}
+use Rattle.sharc_guard.proofs.{Imports.{get_or_from_slice_get, ◌≡◌, ℕ, ℤ, ◌+◌, ◌*◌, ◌≤◌, ◌⊎◌, inl, inr, Bool, true, List, [], ◌∷◌, ◌++◌, length, Some, refl, sym, ap, ◌∙◌, subst, arith, ⊎_elim, slice_get, get_or as slice_index_or, Instr, RaiseLoaded, Lower, MoveReference, Exit, Char, Int, Long, Op, Flat, At, Turn, goes, asks, halts, turn, op_turn, may_go, at_after, IsFlatPath, asked_by, asked, Program, Thread, statement_at, thread_after, weight, weight_in, place, guarded, head, own, body, tail, Tells, LocksFrom, IsLevel, guarded_asked_by, guarded_asked, is_enter, moves}, Placing.HasAt, Gates.GivesNow, Turns.behind, Near.{quiet, IsQuiet, Near, Ending, Follow}, Phases.{IsMoving, Stage, ahead, behind_it, leaves, Bound, opens, enters_all}}
 use Rattle.sharc_code.specs.Machine as CodeMachine
 use Rattle.sharc_guard.specs.Machine as Form
 use Rattle.sharc_guard.specs.Path as Path
 
 pub statement_is : (xs : List Instr) (n : ℕ) (i : Instr) → slice_get xs n ≡ Some i → slice_index_or xs n Exit ≡ i
-statement_is [] n i e = absurd (cc)
-statement_is (x ∷ xs) zero i e = cc
-statement_is (x ∷ xs) (suc n) i e = statement_is xs n i e
+statement_is xs n i e = get_or_from_slice_get xs n i Exit e
 
 pub one_body : (pl : ℕ → ℕ) (s : ℕ) (o : Op) → IsMoving o → (i : Instr) × (own (body pl s o) ≡ i ∷ [])
 one_body pl s Op.Enter h = absurd h
@@ -54,11 +52,6 @@ module _ (dropped : ℕ → Bool) (flat : Flat) (level : IsLevel flat) where
   quiet_turn (Lower r) a h = (refl, refl)
   quiet_turn (MoveReference r from) a h = (refl, refl)
   quiet_turn _ a h = absurd h
-
-  pub function_site : (fs : List Function) (n : ℕ) → (slice_index_or (map (entered_at (place dropped flat.lines)) fs) n CodeMachine.no_function).site ≡ (slice_index_or fs n CodeMachine.no_function).site
-  function_site [] n = refl
-  function_site (f ∷ fs) zero = refl
-  function_site (f ∷ fs) (suc n) = function_site fs n
 
   module _ (from : At) (begun : Thread) (locks : LocksFrom flat from) where
     -- what the last turn was, where nothing but a statement's own turn is to come

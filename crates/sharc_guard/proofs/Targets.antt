@@ -1,5 +1,5 @@
 -- The lists that marking fills: the lines that are led to, and the marks of the lines so far.
-use Rattle.sharc_guard.proofs.Imports.{fun_ext, ◌≡◌, ◌≤◌, ◌<◌, ◌⊎◌, inl, inr, ℕ, zero, suc, ◌+◌, Bool, false, ◌||◌, List, [], ◌∷◌, ◌++◌, length, drop, take, get_or, replicate, refl, sym, ap, ◌∙◌, subst, arith, cond, Option, Some, None, slice_get, append-nil, drop_all, length_push, get_or_push, get_or_append_left, get_or_past, get_or-replicate, length-replicate, take_all, cases_lt, ◌==◌, Kind, Function, Op, Flat, SimplePlace, in_variable, in_global, nothing, know_after, known, drops, drops_at, dropped, is_entry, is_led_to, is_target, leads_to, line_leads, AreBefore, AreMarks, AreTargets, Notes, is_one, know_of, no_notes, marked, or_false, or_assoc}
+use Rattle.sharc_guard.proofs.Imports.{slice_get_past, fun_ext, ◌≡◌, ◌≤◌, ◌<◌, ◌⊎◌, inl, inr, ℕ, ◌+◌, Bool, false, ◌||◌, List, [], ◌∷◌, ◌++◌, length, drop, take, get_or, replicate, refl, sym, ap, ◌∙◌, subst, arith, cond, Option, Some, None, slice_get, append-nil, drop_all, length_push, get_or_push, get_or_append_left, get_or_past, get_or-replicate, length-replicate, take_all, cases_lt, ◌==◌, Kind, Function, Op, Flat, SimplePlace, in_variable, in_global, nothing, know_after, known, drops, drops_at, dropped, is_entry, is_led_to, is_target, leads_to, line_leads, AreBefore, AreMarks, AreTargets, Notes, is_one, know_of, no_notes, marked, or_false, or_assoc}
 use Rattle.sharc_lemmas.proofs.Numbers.{next}
 
 -- ---- lines that are led to
@@ -99,14 +99,9 @@ at_next flat n marks s later o mark target at h em et ek before = record {
         let e : n ≡ k = omega arith in
         get_or_push marks mark false k (h.count ∙ e) ∙ em ∙ ap (λ w. drops w o) h.known ∙ ap (drops_at (known flat n)) (sym at) ∙ ap (dropped flat) e
 
-pub none_at : (lines : List Op) (n : ℕ) → length lines ≤ n → slice_get lines n ≡ None
-none_at [] n le = refl
-none_at (o ∷ os) zero le = absurd (omega arith)
-none_at (o ∷ os) (suc n) le = none_at os n (omega arith)
-
 pub all_marked : (flat : Flat) (marks : List Bool) (s : Notes) → IsAt flat (length flat.lines) marks s → AreMarks flat marks
 all_marked flat marks s h = record { count = h.count; are = λ n. by n (cases_lt n (length flat.lines)) }
   where
     by : (n : ℕ) → (n < length flat.lines) ⊎ (length flat.lines ≤ n) → marked marks n ≡ dropped flat n
     by n (inl l) = h.are n l
-    by n (inr l) = get_or_past marks n false (subst (λ m. m ≤ n) (sym h.count) l) ∙ sym (ap (drops_at (known flat n)) (none_at flat.lines n l))
+    by n (inr l) = get_or_past marks n false (subst (λ m. m ≤ n) (sym h.count) l) ∙ sym (ap (drops_at (known flat n)) (slice_get_past flat.lines n l))

@@ -1,5 +1,5 @@
 -- The paths of guarded code are those of flat code.
-use Rattle.sharc_guard.proofs.{Imports.{Taken, is_positive, elements_of, is_zero, Replaced, held_mutexes, holds_mutex, holds, Private, Readonly, Racy, Dynamic, PlaceMode, Cell, Function, Parameter, Instr, RaiseLoaded, Lower, MoveReference, ChkRead, ChkWrite, Char, Int, CellMode, Act, Site, CellAt, Trap, ◌≡◌, ◌≢◌, ℕ, ℤ, pos, zero, suc, ◌+◌, ◌*◌, ◌<◌, ◌≤◌, ◌⊎◌, inl, inr, Bool, List, [], ◌∷◌, length, map, refl, sym, ap, ◌∙◌, subst, arith, ⊎_elim, cond, Result, Ok, Err, false, true, not, negsuc, nat_lt, cases_eq, slice_get_past, get_or as slice_index_or, Op, Spot, Flat, At, Turn, goes, asks, halts, function_of, end_turn, line_turn, op_turn, turn, first_at, begun, start, Caller, indexed, asserts, with_result, takes_local, goes_on, stops, returned, called, set_int, int, ref, cell_at, cell_mode_of, lock_is_null, accesses, accessed, next, set_ref, gives_up, take_kind_of, at_after, Program, Thread, statement_at, with_parameter, fresh, started, thread_after, IsPath, weight_in, place, guarded, entered_at, own, body, tail, head, check_under, Takes, Level, IsLevel, Tells, IsSettling, AreLowered, OverwritesNone, Quietly, OnWay, IsReplaced, MatchesFlat, HasCome, LocksFrom, GuardedCounts, NeedsCheck, IsPassed, WasChecked, IsOf, false_true}, Gates.{Guards as GuardsOf, Passes, GivesNow}, Turning.IsOpenFor, Beside.beside, Ready.{Is, null_is, put_other, Ready}, Near.{IsLowering, Near, Ending, leaving, Follow, lands}, Phases.{Ahead, Stage, ahead, behind_it, leaves, Bound}, Steps.{statement_is, quiet_turn, function_site, Coming, landed, Was, PassedBy, LastPassed}, Ways.ways, Comes.{at_body, at_check, comes}}
+use Rattle.sharc_guard.proofs.{Imports.{Taken, is_positive, elements_of, is_zero, Replaced, held_mutexes, holds_mutex, holds, Private, Readonly, Racy, Dynamic, PlaceMode, Cell, Function, Parameter, Instr, RaiseLoaded, Lower, MoveReference, ChkRead, ChkWrite, Char, Int, CellMode, Act, Site, CellAt, Trap, ◌≡◌, ◌≢◌, ℕ, ℤ, pos, suc, ◌+◌, ◌*◌, ◌<◌, ◌≤◌, ◌⊎◌, inl, inr, Bool, List, [], ◌∷◌, length, refl, sym, ap, ◌∙◌, subst, arith, ⊎_elim, cond, Result, Ok, Err, false, true, not, negsuc, nat_lt, cases_eq, slice_get_past, Op, Spot, Flat, At, Turn, goes, asks, halts, function_of, end_turn, line_turn, op_turn, turn, first_at, begun, start, Caller, indexed, asserts, with_result, takes_local, goes_on, stops, returned, called, set_int, int, ref, cell_at, cell_mode_of, lock_is_null, accesses, accessed, next, set_ref, gives_up, take_kind_of, at_after, Program, Thread, statement_at, with_parameter, fresh, started, thread_after, IsPath, weight_in, place, guarded, entered_at, own, body, tail, head, check_under, Takes, Level, IsLevel, Tells, IsSettling, AreLowered, OverwritesNone, Quietly, OnWay, IsReplaced, MatchesFlat, HasCome, LocksFrom, GuardedCounts, NeedsCheck, IsPassed, WasChecked, IsOf, false_true}, Gates.{Guards as GuardsOf, Passes, GivesNow}, Turning.IsOpenFor, Beside.beside, Ready.{Is, null_is, put_other, Ready}, Near.{IsLowering, Near, Ending, leaving, Follow, lands}, Phases.{Ahead, Stage, ahead, behind_it, leaves, Bound}, Steps.{statement_is, quiet_turn, Coming, landed, Was, PassedBy, LastPassed}, Ways.ways, Comes.{at_body, at_check, comes}, Placing.{entered_is, part_is}}
 use Rattle.sharc_code.specs.Machine as CodeMachine
 use Rattle.sharc_guard.specs.Machine as Form
 use Rattle.sharc_guard.specs.Level.{IsEntry}
@@ -55,7 +55,7 @@ module _ (dropped : ℕ → Bool) (flat : Flat) (level : IsLevel flat) where
 
   leaving_told : (m : At) (a : Thread) (x : Ending dropped flat level m a) (n : ℕ) → x.steps ≡ n → Tells p (Form.exit p a (leaving n)) (end_turn flat m n)
   leaving_told m a x (suc (suc n)) e = refl
-  leaving_told m a x _ e = (ap (λ n. (Form.function_at p n).site) x.function ∙ function_site dropped flat level flat.functions m.function, refl)
+  leaving_told m a x _ e = (ap (λ n. (Form.function_at p n).site) x.function ∙ part_is dropped flat (λ (g : Function). g.site) (λ g. refl) m.function, refl)
 
   settling_flight : (m : At) (a : Thread) → Ready flat level m → (k : ℕ) → a.refs k ≢ pos 0 → (i : Instr) → statement_at p a.pc ≡ i → IsSettling i a m k → (IsLowering (i ∷ []) → (c : CellAt) × (m.given ≡ Replaced c ∷ []) × (a.lowered ≡ []))
       → IsReplaced p m a k ⊎ ((n : ℕ) (m2 : At) → Quietly flat n m m2 → OnWay (a.refs k) m m2)
@@ -244,11 +244,6 @@ module _ (dropped : ℕ → Bool) (flat : Flat) (level : IsLevel flat) where
       absurd (leaving_free m a x.steps site act go (subst (Tells p (Form.Asks site act go)) ft (subst (λ t. Tells p t (turn flat m)) e s.tells)) n)
 
   -- ---- a thread's start
-  function_placed : (fs : List Function) (n : ℕ) → n < length fs → slice_index_or (map (entered_at (place dropped flat.lines)) fs) n CodeMachine.no_function ≡ entered_at pl (slice_index_or fs n CodeMachine.no_function)
-  function_placed [] n lt = absurd (omega arith)
-  function_placed (f ∷ fs) zero lt = refl
-  function_placed (f ∷ fs) (suc n) lt = function_placed fs n (omega arith)
-
   module _ (f : ℕ) (v : ℤ) (known : f < length flat.functions) (locks : LocksFrom flat (start flat f v)) where
     abbrev F : Function
     F = function_of flat f
@@ -276,7 +271,7 @@ module _ (dropped : ℕ → Bool) (flat : Flat) (level : IsLevel flat) where
 
     first : Coming dropped flat level (start flat f v) (started p f v) locks []
     first =
-        let same : started p f v ≡ begun_of (entered_at pl F) = ap begun_of (function_placed flat.functions f known) in
+        let same : started p f v ≡ begun_of (entered_at pl F) = ap begun_of (entered_is dropped flat f known) in
         landed dropped flat level (start flat f v) (started p f v) locks [] [] [] tt
         (subst (λ a. Near dropped flat level (start flat f v) a []) (sym same) (begins F.parameter entry.takes)) tt refl (omega arith) (omega arith)
 

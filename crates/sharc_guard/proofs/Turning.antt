@@ -1,5 +1,5 @@
 -- One statement of flat code and its own guarded statement.
-use Rattle.sharc_guard.proofs.{Imports.{◌≡◌, ◌≢◌, ℕ, ℤ, pos, negsuc, zero, suc, ◌+◌, ◌*◌, ◌<◌, ◌≤◌, inl, inr, Bool, true, false, not, List, [], ◌∷◌, ◌++◌, length, map, Some, None, refl, sym, ap, ◌∙◌, subst, arith, cond, ⊎_elim, Result, Ok, Err, cases_eq, cases_lt, nat_tests, fun_ext, get_or as slice_index_or, nat_lt, ◌==◌, Act, CellAt, CellMode, SourceEvent, Site, Trap, Taken, Function, Readonly, Use, Cell, Instr, RaiseLoaded, Lower, MoveReference, Register, Char, Int, Long, computed, negated, holds, complement, truth, GivenUp, Released, Replaced, Emptied, is_zero, is_equal, held_mutexes, holds_mutex, locked_by, unlocked_by, number_of, elements_of, stopped, event_of, answer_of, is_positive, Op, Spot, Flat, Caller, At, Turn, goes, asks, put, int, ref, set_int, set_ref, gives_up, popped, moved, settled, next, over_lines, goes_on, stops, asserts, with_result, cell_at, base_of, without_base, cell_mode_of, lock_is_null, instance_mode, accessed, accesses, event, indexed, take_kind_of, variable_of, takes_local, called, returned, argument, handed, op_turn, with_event, Program, Thread, source_at, place, guarded, entered_at, own, body, tail, Slot, free, full, Slots, with_slot, with_moved, without_cell, slot_of, without_handed, Enters, Calls, Resumes, Leaves, Level, IsLevel, IsEnd, AreLowered}, Places.{IsPlaceOf, spot_of}, Holding.{quiet_held, lock_held, unlock_held}, Beside.{zero_same, kind_same, variable_same, callers, callers_length, beside, cell_same, mode_same, argument_same, object_same}, Ready.{put_at, put_other, moved_same, Is, Hold, hold_as, Frames, Ready, enters, keeps as keeps_at, puts as puts_at, moves as moves_at, call_ready as call_ready_at, return_ready as return_ready_at, null_here as null_here_at, is_free as is_free_at}, Near.{Near, Follow, lands}}
+use Rattle.sharc_guard.proofs.{Imports.{◌≡◌, ◌≢◌, ℕ, ℤ, pos, negsuc, suc, ◌+◌, ◌*◌, ◌<◌, ◌≤◌, inl, inr, Bool, true, false, not, List, [], ◌∷◌, ◌++◌, length, Some, None, refl, sym, ap, ◌∙◌, subst, arith, cond, ⊎_elim, Result, Ok, Err, cases_eq, cases_lt, nat_tests, fun_ext, nat_lt, ◌==◌, Act, CellAt, CellMode, SourceEvent, Site, Trap, Taken, Function, Readonly, Use, Cell, Instr, RaiseLoaded, Lower, MoveReference, Register, Char, Int, Long, computed, negated, holds, complement, truth, GivenUp, Released, Replaced, Emptied, is_zero, is_equal, held_mutexes, holds_mutex, locked_by, unlocked_by, number_of, elements_of, stopped, event_of, answer_of, is_positive, Op, Spot, Flat, Caller, At, Turn, goes, asks, put, int, ref, set_int, set_ref, gives_up, popped, moved, settled, next, over_lines, goes_on, stops, asserts, with_result, cell_at, base_of, without_base, cell_mode_of, lock_is_null, instance_mode, accessed, accesses, event, indexed, take_kind_of, variable_of, takes_local, called, returned, argument, handed, op_turn, with_event, Program, Thread, source_at, place, guarded, own, body, tail, Slot, free, full, Slots, with_slot, with_moved, without_cell, slot_of, without_handed, Enters, Calls, Resumes, Leaves, Level, IsLevel, IsEnd, AreLowered}, Places.{IsPlaceOf, spot_of}, Holding.{quiet_held, lock_held, unlock_held}, Beside.{zero_same, kind_same, variable_same, callers, callers_length, beside, cell_same, mode_same, argument_same, object_same}, Ready.{put_at, put_other, moved_same, Is, Hold, hold_as, Frames, Ready, enters, keeps as keeps_at, puts as puts_at, moves as moves_at, call_ready as call_ready_at, return_ready as return_ready_at, null_here as null_here_at, is_free as is_free_at}, Near.{Near, Follow, lands}, Placing.{entered_is}}
 use Rattle.sharc_code.specs.Arithmetic as Code
 use Rattle.sharc_code.specs.Machine as CodeMachine
 use Rattle.sharc_code.specs.Says as Says
@@ -156,11 +156,6 @@ module _ (dropped : ℕ → Bool) (flat : Flat) (level : IsLevel flat) (m : At) 
   plain site act v l u = sym (quiet_held m.events (event_of site act v) l u)
 
   -- ---- functions
-  function_same : (fs : List Function) (f : ℕ) → f < length fs → (slice_index_or (map (entered_at (place dropped flat.lines)) fs) f CodeMachine.no_function).entry ≡ pl (slice_index_or fs f CodeMachine.no_function).entry
-  function_same [] f lt = absurd (omega arith)
-  function_same (x ∷ fs) zero lt = refl
-  function_same (x ∷ fs) (suc f) lt = function_same fs f (omega arith)
-
   few_frames : nat_lt (length (callers pl m.frames)) 256 ≡ nat_lt (length m.frames) 255
   few_frames = ap (λ n. nat_lt n 256) (callers_length pl m.frames) ∙ less (length m.frames)
     where
@@ -187,7 +182,7 @@ module _ (dropped : ℕ → Bool) (flat : Flat) (level : IsLevel flat) (m : At) 
 
       is_there : there ≡ beside pl m2 (pl m2.pc) log low
       is_there =
-          ap (λ z. record me { pc = z; ints_from = m.int_base + i; refs_from = m.ref_base + r; frames = record { pc = q + 1; ints = m.int_base; refs = m.ref_base } ∷ callers pl m.frames }) (function_same flat.functions f c.known)
+          ap (λ z. record me { pc = z; ints_from = m.int_base + i; refs_from = m.ref_base + r; frames = record { pc = q + 1; ints = m.int_base; refs = m.ref_base } ∷ callers pl m.frames }) (ap (λ (g : Function). g.entry) (entered_is dropped flat f c.known))
           ∙ ap (λ z. record me { pc = pl m2.pc; ints_from = m.int_base + i; refs_from = m.ref_base + r; frames = record { pc = z; ints = m.int_base; refs = m.ref_base } ∷ callers pl m.frames }) e
 
       each : (b : Bool) → F [] (cond b (goes m2) (stops Trap.CallDepth spot)) (cond b (Form.Goes there) (Form.Halts (Form.Stopped Trap.CallDepth s)))

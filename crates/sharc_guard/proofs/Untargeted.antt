@@ -1,5 +1,5 @@
 -- Nothing leads to an access whose check is dropped.
-use Rattle.sharc_guard.proofs.{Imports.{◌≡◌, ℕ, zero, suc, ◌+◌, ◌-◌, ◌<◌, ◌≤◌, Bool, true, false, List, [], ◌∷◌, ◌++◌, length, Some, refl, sym, ap, ◌∙◌, subst, ⊎_elim, arith, slice_get, get_or as slice_index_or, cases_lt, or_right, or_left, length-append, length-map, ◌==◌, Function, Instr, Start, Exit, ChkRead, ChkWrite, Load, Store, LoadRef, Exchange, Char, no_function, Kind, Op, Spot, Flat, Program, expand, head, body, tail, own, offset, place, guarded, entered_at, check_under, access_of, LeadsTo, IsNoTarget, leads_to, line_leads, is_led_to, is_entry, is_target, is_dynamic, tells, has_passed, place_of, known, drops, drops_at, dropped, DroppedIsNoTarget, and_left, within}, Checking.{grows, entry_placed, at_line}, Framing.{AllIn, all_append, all_at, head_all}, Placing.{width_is, place_next}, Repeating.{eq_same, no_some, true_false, dynamic_is, repeated}}
+use Rattle.sharc_guard.proofs.{Imports.{◌≡◌, ℕ, zero, suc, ◌+◌, ◌-◌, ◌<◌, ◌≤◌, Bool, true, false, List, [], ◌∷◌, ◌++◌, length, Some, refl, sym, ap, ◌∙◌, subst, ⊎_elim, arith, slice_get, get_or as slice_index_or, cases_lt, or_right, or_left, length-append, length-map, ◌==◌, Function, Instr, Start, Exit, ChkRead, ChkWrite, Load, Store, LoadRef, Exchange, Char, no_function, Kind, Op, Spot, Flat, Program, expand, head, body, tail, own, offset, place, guarded, entered_at, check_under, access_of, LeadsTo, IsNoTarget, leads_to, line_leads, is_led_to, is_entry, is_target, is_dynamic, tells, has_passed, place_of, known, drops, drops_at, dropped, DroppedIsNoTarget, and_left, within}, Checking.{grows, at_line}, Framing.{AllIn, all_append, all_at, head_all}, Placing.{entered_is, width_is, place_next}, Repeating.{eq_same, no_some, true_false, dynamic_is, repeated}}
 use Rattle.sharc_guard.specs.Checked.{Access}
 use Rattle.sharc_guard.specs.Known as Known
 
@@ -34,7 +34,7 @@ all_leads pl drop n o =
     (head_all (Leads pl n o) drop n o (λ c pc h. absurd h) (λ c pc h. absurd h) (λ c pc h. absurd h) (λ pc h. absurd h) (λ r pc h. absurd h) (λ r c pc h. absurd h)) (own_leads pl n o))
     (tail_leads pl n o o)
 
-is_led : (lines : List Op) (n k : ℕ) (o : Op) (t : ℕ) → k < n → slice_get lines k ≡ Some o → leads_to k o t ≡ true → is_led_to lines n t ≡ true
+pub is_led : (lines : List Op) (n k : ℕ) (o : Op) (t : ℕ) → k < n → slice_get lines k ≡ Some o → leads_to k o t ≡ true → is_led_to lines n t ≡ true
 is_led lines zero k o t lt e l = absurd (omega arith)
 is_led lines (suc n) k o t lt e l =
     ⊎_elim
@@ -171,7 +171,7 @@ module _ (flat : Flat) where
         let m = length-map flat.functions (entered_at pl) in
         let known : f < length flat.functions = omega arith in
         let to = (slice_index_or flat.functions f no_function).entry in
-        apart n to e (or_right (is_led_to flat.lines (length flat.lines) to) (is_entry flat.functions to) (is_entered flat.functions f known)) (sym (entry_placed pl flat.functions f known) ∙ h);
+        apart n to e (or_right (is_led_to flat.lines (length flat.lines) to) (is_entry flat.functions to) (is_entered flat.functions f known)) (sym (ap (λ (g : Function). g.entry) (entered_is (dropped flat) flat f known)) ∙ h);
   }
 
   at_access : (pc : ℕ) (i : Instr) (a : Access) → slice_get p.statements pc ≡ Some i → access_of i ≡ Some a → d a.site ≡ true → IsNoTarget p pc

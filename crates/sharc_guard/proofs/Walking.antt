@@ -1,15 +1,10 @@
 -- A path of guarded code comes to where a path of flat code is.
-use Rattle.sharc_guard.proofs.{Imports.{◌≡◌, ℕ, ℤ, zero, suc, pos, ◌+◌, ◌-◌, ◌*◌, ◌<◌, ◌≤◌, ◌⊎◌, inl, inr, Bool, true, false, List, [], ◌∷◌, ◌++◌, length, map, refl, sym, ap, ◌∙◌, subst, arith, Some, None, Option, slice_get, get_or as slice_index_or, append-nil, append_assoc, length-append, Act, Site, Trap, Function, Parameter, PlaceMode, Dynamic, SourcePlace, Char, Int, Instr, ChkRead, ChkWrite, no_function, NULL, stopped, event_of, Op, Spot, goes, asks, halts, op_turn, at_after, IsFlat, Leads, Thread, Phase, Running, Leaving, Left, Goes, Asks, Checks, Halts, Stopped, Ended, Check, step, source_at, statement_at, weight, started, fresh, thread_after, weight_in, source_of, head, body, tail, own, expand, entered_at, check_under, Resolved, bottom, image, Wants, IsBeside}, Placing.{HasAt, stands, place_next, statement_is, source_is}, Follows.{g, at, Callers, Is, Trailing, AtEnd, Near, Follow, follows, Bodied, Unlocked, leaving}, Heads.{IsPass, Asking, IsHead, AreHeads, heads}, Targets.{none_at as past}}
+use Rattle.sharc_guard.proofs.{Imports.{slice_get_past, slice_get-get_or, ◌≡◌, ℕ, ℤ, zero, suc, pos, ◌+◌, ◌-◌, ◌*◌, ◌<◌, ◌≤◌, ◌⊎◌, inl, inr, Bool, true, false, List, [], ◌∷◌, ◌++◌, length, refl, sym, ap, ◌∙◌, subst, arith, Some, None, Option, slice_get, append-nil, append_assoc, length-append, Act, Site, Trap, Function, Parameter, PlaceMode, Dynamic, SourcePlace, Char, Int, Instr, ChkRead, ChkWrite, NULL, stopped, event_of, Op, Spot, goes, asks, halts, op_turn, at_after, IsFlat, Leads, Thread, Phase, Running, Leaving, Left, Goes, Asks, Checks, Halts, Stopped, Ended, step, source_at, statement_at, weight, started, fresh, thread_after, weight_in, source_of, head, body, tail, own, expand, entered_at, check_under, Resolved, bottom, image, Wants, IsBeside}, Placing.{HasAt, entered_is, part_is, stands, place_next, statement_is, source_is}, Follows.{g, at, Callers, Is, Trailing, AtEnd, Near, Follow, follows, Bodied, Unlocked, leaving}, Heads.{IsPass, Asking, IsHead, AreHeads, heads}}
 use Rattle.sharc_flat.specs.Machine as Flat
 use Rattle.sharc_guard.specs.Machine as Form
 use Rattle.sharc_guard.specs.Machine.{Turn}
 use Rattle.sharc_guard.specs.Path as Guarded
 use Rattle.sharc_flat.specs.Path as Flow
-
-pub line_at : (lines : List Op) (n : ℕ) → n < length lines → (o : Op) × (slice_get lines n ≡ Some o)
-line_at [] n lt = absurd (omega arith)
-line_at (o ∷ os) zero lt = (o, refl)
-line_at (o ∷ os) (suc n) lt = line_at os n (omega arith)
 
 -- ---- how many statements a line is
 one_check : (drop : Bool) (dynamic : Instr) (spot : Spot) (n : ℕ) (mode : PlaceMode) → length (check_under drop dynamic spot n mode) ≤ 1
@@ -121,7 +116,7 @@ module _ (dropped : ℕ → Bool) (flat : Flat.Flat) (ok : IsFlat flat) where
     skip_line : (fuel : ℕ) (answers : List ℤ) (a : Thread) → Flow.IsPath flat m0 answers → Is dropped flat (at_after flat m0 answers) a → length flat.lines ≤ (at_after flat m0 answers).pc + suc fuel
         → (Flow.IsPath flat m0 (pos 0 ∷ answers) → Is dropped flat (at_after flat m0 (pos 0 ∷ answers)) a → length flat.lines ≤ (at_after flat m0 (pos 0 ∷ answers)).pc + fuel → Ahead a (pos 0 ∷ answers))
         → Ahead a answers
-    skip_line fuel answers a path h le rec = by_line (line_at flat.lines (at_after flat m0 answers).pc h.inside)
+    skip_line fuel answers a path h le rec = by_line (_, slice_get-get_or flat.lines (at_after flat m0 answers).pc Op.Enter h.inside)
       where
         enters : (o : Op) → slice_get flat.lines (at_after flat m0 answers).pc ≡ Some o → IsIdle o → Ahead a answers
         enters o s e =
@@ -314,65 +309,44 @@ module _ (dropped : ℕ → Bool) (flat : Flat.Flat) (ok : IsFlat flat) where
           let m = at_after flat m0 answers in
           let e = h.pc_is in
           let k : m.pc - length flat.lines ≡ h.steps = omega arith in
-          ap (λ l. Flat.line_turn flat l m) (past flat.lines m.pc (omega arith)) ∙ ap (Flat.end_turn flat m) k
+          ap (λ l. Flat.line_turn flat l m) (slice_get_past flat.lines m.pc (omega arith)) ∙ ap (Flat.end_turn flat m) k
 
       site_same : (f : ℕ) → (Form.function_at p f).site ≡ (Flat.function_of flat f).site
-      site_same f = there flat.functions f
-        where
-          there : (fs : List Function) (f : ℕ) → (slice_index_or (map (entered_at pl) fs) f no_function).site ≡ (slice_index_or fs f no_function).site
-          there [] f = refl
-          there (y ∷ fs) zero = refl
-          there (y ∷ fs) (suc f) = there fs f
+      site_same = part_is dropped flat (λ (g : Function). g.site) (λ g. refl)
+
+      -- its Return or its Gone
+      leaves : (act : Act) (phase : Phase) (k : ℕ) (answers : List ℤ) → Flow.IsPath flat m0 answers → (h : AtEnd dropped flat (at_after flat m0 answers) a) → h.steps ≡ k → phase ≡ leaving dropped flat (suc k)
+          → let m = at_after flat m0 answers in let told = record (Form.told a (Form.function_at p a.function).site act (pos 0)) { phase = phase } in Guarded.after a (Form.exit p a (leaving dropped flat k)) x ≡ told
+          → Flow.after m (Flat.end_turn flat m k) (pos 0) ≡ Flat.next (Flat.with_event (event_of (Flat.function_of flat m.function).site act (pos 0)) m)
+          → Flow.may_go (Flat.end_turn flat m k) ≡ true → turns ≤ 4 * length answers → weighed ≤ 5 * length answers → Next
+      leaves act phase k answers path h e ph after_form after_flat may count pace =
+          let m = at_after flat m0 answers in
+          let t = end_at answers h ∙ ap (Flat.end_turn flat m) e in
+          let uu : Form.turn p a ≡ Form.exit p a (leaving dropped flat k) = ap (λ i. step p i a) h.statement ∙ ap (Form.exit p a) (h.phase_is ∙ ap (leaving dropped flat) e) in
+          let site = site_same a.function ∙ ap (λ f. (Flat.function_of flat f).site) h.function_is in
+          let to : next_a ≡ record (Form.told a (Form.function_at p a.function).site act (pos 0)) { phase = phase } = ap (λ t. Guarded.after a t x) uu ∙ after_form in
+          let mto : at_after flat m0 (pos 0 ∷ answers) ≡ Flat.next (Flat.with_event (event_of (Flat.function_of flat m.function).site act (pos 0)) m) = ap (λ t. Flow.after m t (pos 0)) t ∙ after_flat in
+          let wi : w ≡ 1 = ap weight h.statement in
+          let hp = h.pc_is in
+          record {
+            answers = pos 0 ∷ answers;
+            path = (path, ap Flow.may_go t ∙ may);
+            stands_at = inr (inr (inr (subst (λ m. AtEnd dropped flat m next_a) (sym mto) (subst (AtEnd dropped flat (Flat.next (Flat.with_event (event_of (Flat.function_of flat m.function).site act (pos 0)) m))) (sym to) (record {
+              steps = suc k;
+              pc_is = omega arith;
+              statement = h.statement;
+              phase_is = ph;
+              function_is = h.function_is;
+              events = ap (λ es. es ++ event_of (Form.function_at p a.function).site act (pos 0) ∷ []) h.events ∙ ap (λ s. m.events ++ event_of s act (pos 0) ∷ []) site;
+              resolved = tt;
+            })))));
+            count = omega arith;
+            pace = omega arith;
+          }
 
       end_turn : (answers : List ℤ) → Flow.IsPath flat m0 answers → (h : AtEnd dropped flat (at_after flat m0 answers) a) (k : ℕ) → h.steps ≡ k → turns ≤ 4 * length answers → weighed ≤ 5 * length answers → Next
-      end_turn answers path h zero e count pace =
-          let m = at_after flat m0 answers in
-          let t = end_at answers h ∙ ap (Flat.end_turn flat m) e in
-          let uu : Form.turn p a ≡ Form.exit p a Running = ap (λ i. step p i a) h.statement ∙ ap (Form.exit p a) (h.phase_is ∙ ap (leaving dropped flat) e) in
-          let site = site_same a.function ∙ ap (λ f. (Flat.function_of flat f).site) h.function_is in
-          let to : next_a ≡ record (Form.told a (Form.function_at p a.function).site Act.Return (pos 0)) { phase = Leaving } = ap (λ t. Guarded.after a t x) uu in
-          let mto : at_after flat m0 (pos 0 ∷ answers) ≡ Flat.next (Flat.with_event (event_of (Flat.function_of flat m.function).site Act.Return (pos 0)) m) = ap (λ t. Flow.after m t (pos 0)) t in
-          let wi : w ≡ 1 = ap weight h.statement in
-          let hp = h.pc_is in
-          record {
-            answers = pos 0 ∷ answers;
-            path = (path, ap Flow.may_go t);
-            stands_at = inr (inr (inr (subst (λ m. AtEnd dropped flat m next_a) (sym mto) (subst (AtEnd dropped flat (Flat.next (Flat.with_event (event_of (Flat.function_of flat m.function).site Act.Return (pos 0)) m))) (sym to) (record {
-              steps = 1;
-              pc_is = omega arith;
-              statement = h.statement;
-              phase_is = refl;
-              function_is = h.function_is;
-              events = ap (λ es. es ++ event_of (Form.function_at p a.function).site Act.Return (pos 0) ∷ []) h.events ∙ ap (λ s. m.events ++ event_of s Act.Return (pos 0) ∷ []) site;
-              resolved = tt;
-            })))));
-            count = omega arith;
-            pace = omega arith;
-          }
-      end_turn answers path h (suc zero) e count pace =
-          let m = at_after flat m0 answers in
-          let t = end_at answers h ∙ ap (Flat.end_turn flat m) e in
-          let uu : Form.turn p a ≡ Form.exit p a Leaving = ap (λ i. step p i a) h.statement ∙ ap (Form.exit p a) (h.phase_is ∙ ap (leaving dropped flat) e) in
-          let site = site_same a.function ∙ ap (λ f. (Flat.function_of flat f).site) h.function_is in
-          let to : next_a ≡ record (Form.told a (Form.function_at p a.function).site Act.Gone (pos 0)) { phase = Left } = ap (λ t. Guarded.after a t x) uu in
-          let mto : at_after flat m0 (pos 0 ∷ answers) ≡ Flat.next (Flat.with_event (event_of (Flat.function_of flat m.function).site Act.Gone (pos 0)) m) = ap (λ t. Flow.after m t (pos 0)) t in
-          let wi : w ≡ 1 = ap weight h.statement in
-          let hp = h.pc_is in
-          record {
-            answers = pos 0 ∷ answers;
-            path = (path, ap Flow.may_go t);
-            stands_at = inr (inr (inr (subst (λ m. AtEnd dropped flat m next_a) (sym mto) (subst (AtEnd dropped flat (Flat.next (Flat.with_event (event_of (Flat.function_of flat m.function).site Act.Gone (pos 0)) m))) (sym to) (record {
-              steps = 2;
-              pc_is = omega arith;
-              statement = h.statement;
-              phase_is = refl;
-              function_is = h.function_is;
-              events = ap (λ es. es ++ event_of (Form.function_at p a.function).site Act.Gone (pos 0) ∷ []) h.events ∙ ap (λ s. m.events ++ event_of s Act.Gone (pos 0) ∷ []) site;
-              resolved = tt;
-            })))));
-            count = omega arith;
-            pace = omega arith;
-          }
+      end_turn answers path h zero e count pace = leaves Act.Return Leaving 0 answers path h e refl refl refl refl count pace
+      end_turn answers path h (suc zero) e count pace = leaves Act.Gone Left 1 answers path h e refl refl refl refl count pace
       end_turn answers path h (suc (suc n)) e count pace =
           let uu : Form.turn p a ≡ Halts Ended = ap (λ i. step p i a) h.statement ∙ ap (Form.exit p a) (h.phase_is ∙ ap (leaving dropped flat) e) in
           let z : false ≡ true = sym (ap Guarded.may_go uu) ∙ go in
@@ -393,12 +367,7 @@ module _ (dropped : ℕ → Bool) (flat : Flat.Flat) (ok : IsFlat flat) where
   -- ---- the beginning
   module _ (f : ℕ) (v : ℤ) (lf : f < length flat.functions) where
     function_is : Form.function_at p f ≡ entered_at pl (Flat.function_of flat f)
-    function_is = there flat.functions f lf
-      where
-        there : (fs : List Function) (f : ℕ) → f < length fs → slice_index_or (map (entered_at pl) fs) f no_function ≡ entered_at pl (slice_index_or fs f no_function)
-        there [] f lt = absurd (omega arith)
-        there (x ∷ fs) zero lt = refl
-        there (x ∷ fs) (suc f) lt = there fs f (omega arith)
+    function_is = entered_is dropped flat f lf
 
     abbrev first_with : Function → Thread
     first_with fn = Guarded.with_parameter (record {
@@ -551,18 +520,13 @@ module _ (dropped : ℕ → Bool) (flat : Flat.Flat) (ok : IsFlat flat) where
       turns k e =
           let e1 = h.pc_is in
           let z : m.pc - length flat.lines ≡ k = omega arith in
-          ap (λ l. Flat.line_turn flat l m) (past flat.lines m.pc (omega arith)) ∙ ap (Flat.end_turn flat m) z
+          ap (λ l. Flat.line_turn flat l m) (slice_get_past flat.lines m.pc (omega arith)) ∙ ap (Flat.end_turn flat m) z
 
       uu : (k : ℕ) → h.steps ≡ k → Form.turn p a ≡ Form.exit p a (leaving dropped flat k)
       uu k e = ap (λ i. step p i a) h.statement ∙ ap (Form.exit p a) (h.phase_is ∙ ap (leaving dropped flat) e)
 
       site : (Form.function_at p a.function).site ≡ (Flat.function_of flat m.function).site
-      site = there flat.functions a.function ∙ ap (λ f. (Flat.function_of flat f).site) h.function_is
-        where
-          there : (fs : List Function) (f : ℕ) → (slice_index_or (map (entered_at pl) fs) f no_function).site ≡ (slice_index_or fs f no_function).site
-          there [] f = refl
-          there (y ∷ fs) zero = refl
-          there (y ∷ fs) (suc f) = there fs f
+      site = part_is dropped flat (λ (g : Function). g.site) (λ g. refl) a.function ∙ ap (λ f. (Flat.function_of flat f).site) h.function_is
 
       by_steps : (k : ℕ) → Flat.turn flat m ≡ Flat.end_turn flat m k → Form.turn p a ≡ Form.exit p a (leaving dropped flat k) → Wants flat p m (Form.turn p a)
       by_steps zero t u = asked_wants m a (Flat.function_of flat m.function).site (Form.function_at p a.function).site Act.Return (λ v n. Flat.next n) (λ x. record (Form.told a (Form.function_at p a.function).site Act.Return (pos 0)) { phase = Leaving }) t u site

@@ -1,14 +1,9 @@
 -- What a history hands out from the top lies in order.
-use Rattle.sharc_heap.proofs.Imports.{◌≡◌, ℕ, ◌≤◌, ◌==◌, append_assoc, if◌then◌else◌, suc, List, [], ◌∷◌, ◌++◌, slice_index, refl, sym, ap, ◌∙◌, subst, inl, inr, arith, get_or-set_same, get_or-set_other, eq-eqb, ne_eqb, cases_eq, All-cons, AllPairs-cons, All, AllPairs, WordOp, Load, Swap, Add, Sub, Or, And, Cas, WordStep, WordEvent, word_after, words_after_step, words_after, MayFollow, LegalHistory, top_word, step_of, Granules, MovesOn, KeepsTop, HandsOut, moved_over, handed_by, handed_out, LieInOrder, TopHandsOutApart, CasHandsOut, HandedApart}
+use Rattle.sharc_heap.proofs.Imports.{◌≡◌, ℕ, ◌≤◌, ◌==◌, append_assoc, if◌then◌else◌, suc, List, [], ◌∷◌, ◌++◌, slice_index, refl, sym, ap, ◌∙◌, subst, inl, inr, arith, get_or-set_same, get_or-set_other, eq-eqb, ne_eqb, cases_eq, All-cons, AllPairs-cons, All, AllPairs, WordOp, Load, Cas, WordStep, WordEvent, word_after, words_after_step, words_after, MayFollow, LegalHistory, top_word, step_of, Granules, MovesOn, KeepsTop, HandsOut, moved_over, handed_by, handed_out, LieInOrder, TopHandsOutApart, CasHandsOut, HandedApart}
 
 -- an operation on the top
 at_top : (op : WordOp) (top found to : ℕ) (gs : List Granules) → MovesOn op → found ≡ top → LieInOrder (word_after op top) gs to → LieInOrder top (moved_over op found ++ gs) to
 at_top Load top found to gs moves is rest = rest
-at_top (Swap new) top found to gs moves is rest = absurd moves
-at_top (Add number) top found to gs moves is rest = absurd moves
-at_top (Sub number) top found to gs moves is rest = absurd moves
-at_top (Or bits) top found to gs moves is rest = absurd moves
-at_top (And bits) top found to gs moves is rest = absurd moves
 at_top (Cas from upto) top found to gs moves is rest =
     elim (cases_eq top from) [
       | inl same ↦
@@ -18,6 +13,7 @@ at_top (Cas from upto) top found to gs moves is rest =
           let stays : LieInOrder top gs to = rw (ne_eqb top from other) at rest in
           rw (ne_eqb found from (λ e. other (sym is ∙ e))) stays
     ]
+at_top _ top found to gs moves is rest = absurd moves
 
 -- an event
 by_event : (opening : List ℕ) (e : WordEvent) (to : ℕ) (gs : List Granules) → MayFollow opening e → KeepsTop e → LieInOrder (slice_index (words_after_step opening e.step) top_word) gs to → LieInOrder (slice_index opening top_word) (handed_by e ++ gs) to

@@ -70,21 +70,9 @@ same_op w v o p same = ap (λ (s : WordStep). s.op) (same_step (step_of w o) (st
 same_word : (w v : ℕ) (o p : WordOp) → Do (step_of w o) ≡ Do (step_of v p) → w ≡ v
 same_word w v o p same = ap (λ (s : WordStep). s.word) (same_step (step_of w o) (step_of v p) same)
 
-load_is_no_cas : (from to : ℕ) → Cas from to ≡ Load → ⊥
-load_is_no_cas from to same = cc
-
-swap_is_no_cas : (from to new : ℕ) → Cas from to ≡ Swap new → ⊥
-swap_is_no_cas from to new same = cc
-
-same_from : (from to top moved : ℕ) → Cas from to ≡ Cas top moved → from ≡ top
-same_from from to top moved same = cc
-
-same_to : (from to top moved : ℕ) → Cas from to ≡ Cas top moved → to ≡ moved
-same_to from to top moved same = cc
-
 quiet_not_cas : (turn : NewTurn) (word from to : ℕ) → IsQuiet turn → Do (step_of word (Cas from to)) ≡ turn → ⊥
-quiet_not_cas turn word from to (Loads w is) same = load_is_no_cas from to (same_op word w (Cas from to) Load (same ∙ is))
-quiet_not_cas turn word from to (Swaps w new is) same = swap_is_no_cas from to new (same_op word w (Cas from to) (Swap new) (same ∙ is))
+quiet_not_cas turn word from to (Loads w is) same = let e : Cas from to ≡ Load = same_op word w (Cas from to) Load (same ∙ is) in cc
+quiet_not_cas turn word from to (Swaps w new is) same = let e : Cas from to ≡ Swap new = same_op word w (Cas from to) (Swap new) (same ∙ is) in cc
 quiet_not_cas turn word from to (Makes header is) same = let e : Do (step_of word (Cas from to)) ≡ Made header = same ∙ is in cc
 
 full_only : (a : NewArguments) (results : List ℕ) (turn : NewTurn) → Asks a results turn → turn ≡ HeapFull → HasNoRoom a results
@@ -111,10 +99,10 @@ moves_from a results word from to top empty seen fits of_top is moved = record {
 
 pub top_moves_by_one_block : TopMovesByOneBlock
 top_moves_by_one_block a results word from to (TakesOwn own is) = absurd (quiet_not_cas (turn_at (drop (length results) (own_steps a)) a.head) word from to (own_is_quiet a (length results)) is)
-top_moves_by_one_block a results word from to (ReadsTop empty none is) = absurd (load_is_no_cas from to (same_op word top_word (Cas from to) Load is))
+top_moves_by_one_block a results word from to (ReadsTop empty none is) = absurd (let e : Cas from to ≡ Load = same_op word top_word (Cas from to) Load is in cc)
 top_moves_by_one_block a results word from to (MovesTop empty top seen fits is) =
-    let op = same_op word top_word (Cas from to) (Cas top (top + a.block)) is in
-    moves_from a results word from to top empty seen fits (same_word word top_word (Cas from to) (Cas top (top + a.block)) is) (same_from from to top (top + a.block) op) (same_to from to top (top + a.block) op)
+    let op : Cas from to ≡ Cas top (top + a.block) = same_op word top_word (Cas from to) (Cas top (top + a.block)) is in
+    moves_from a results word from to top empty seen fits (same_word word top_word (Cas from to) (Cas top (top + a.block)) is) (cc) (cc)
 top_moves_by_one_block a results word from to (FindsNoRoom empty top seen past is) = absurd cc
 top_moves_by_one_block a results word from to (TakesTop empty top since moved fits is) = absurd (quiet_not_cas (turn_at (drop (length since) (last_steps a top)) top) word from to (last_is_quiet a top (length since)) is)
 

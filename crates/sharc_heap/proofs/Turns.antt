@@ -103,25 +103,14 @@ head_goes_on a results Full head found at is = is ∙ sym (head_after_push a res
 -- ---- no step is left
 pub stage_stays : (a : NewArguments) (results : List ℕ) (stage : NewStage) (found : ℕ) → IsAtStage a results stage → ¬ IsStep (turn_of_stage a stage) → next_stage a stage found ≡ stage
 stage_stays a results Begins found at none = absurd at
-stage_stays a results Link found at none = absurd (none tt)
-stage_stays a results (Cell cell) found at none = absurd (none tt)
-stage_stays a results Top found at none = absurd (none tt)
-stage_stays a results (Move top moved) found at none = absurd (none tt)
-stage_stays a results (Count header) found at none = absurd (none tt)
-stage_stays a results (Length header) found at none = absurd (none tt)
 stage_stays a results (Finished header) found at none = refl
 stage_stays a results Full found at none = refl
+stage_stays a results _ found at none = absurd (none tt)
 
 pub head_stays : (a : NewArguments) (results : List ℕ) (stage : NewStage) (head found : ℕ) → IsAtStage a results stage → ¬ IsStep (turn_of_stage a stage) → next_head a stage head found ≡ head
 head_stays a results Begins head found at none = absurd at
 head_stays a results Link head found at none = absurd (none tt)
-head_stays a results (Cell cell) head found at none = refl
-head_stays a results Top head found at none = refl
-head_stays a results (Move top moved) head found at none = refl
-head_stays a results (Count header) head found at none = refl
-head_stays a results (Length header) head found at none = refl
-head_stays a results (Finished header) head found at none = refl
-head_stays a results Full head found at none = refl
+head_stays a results _ head found at none = refl
 
 -- ---- turn by turn
 pub new_begins : NewBegins

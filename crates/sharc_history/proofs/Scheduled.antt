@@ -27,7 +27,7 @@ module _ (runs : RunLaws) (schedules : ScheduleLaws) (code : Code) (s : Shape) w
   dropped one earlier e =
       let x : Machine = (place_after code s earlier).threads one.thread in
       let elements : ℕ = elements_in (sources (Erase code s earlier)) (speaks_of (instr_at code x.at.pc) x (result_of one.event)) in
-      let told : says code x (result_of one.event) elements ≡ None = try_silent code s x (result_of one.event) elements (try_is (state_now m (place_after code s earlier) one).at.state e) in
+      let told : says code x (result_of one.event) elements ≡ None = try_silent code s x (result_of one.event) elements runs.turns.outcomes (try_is (state_now m (place_after code s earlier) one).at.state e) in
       ap (λ o. with_told one.thread o (Erase code s earlier)) told
 
   -- a turn that is none, where the run before it is without its failed tries

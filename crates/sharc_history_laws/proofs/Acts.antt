@@ -1,5 +1,5 @@
 -- What the event of a turn is about: an access, an object that is made, given or freed; and whose it is.
-use Rattle.sharc_history_laws.proofs.{Imports.{◌≡◌, ℕ, zero, suc, ◌+◌, ◌*◌, ◌%◌, ◌^◌, ◌<◌, Bool, true, false, Option, Some, None, if◌then◌else◌, refl, ap, arith, ◌||◌, sym, ◌∙◌, ◌==◌, SourceEvent, Act, Taken, NewView, NewStage, waits_in, Code, Cell, Register, Instr, Stage, Makes, Uncounts, Begins, Enters, Withdraws, WithdrawsFrom, Leaves as Leaving, Wakes, Machine, ref, said, reference, take_local, nobody, in_signal, in_exit, in_spawn, in_start, in_free, in_new, new_event, cell_at, mode_of, place_at, Access, access_by, made_by, given_by, Targets, Field, Labels, Fine, Accesses}, Tables.{header_at, header_in, header_of}, Told.{is_access, tells, IsToldBy, told_by}}
+use Rattle.sharc_history_laws.proofs.{Imports.{◌≡◌, ℕ, zero, suc, ◌+◌, ◌*◌, ◌%◌, ◌^◌, ◌<◌, Bool, true, false, Option, Some, None, if◌then◌else◌, refl, ap, arith, ◌||◌, sym, ◌∙◌, ◌==◌, SourceEvent, Act, Taken, NewView, NewStage, waits_in, Code, Cell, Register, Instr, Stage, Makes, Uncounts, Begins, Enters, Withdraws, WithdrawsFrom, Leaves as Leaving, Wakes, Machine, ref, said, reference, take_local, nobody, in_signal, in_exit, in_spawn, in_start, in_free, in_new, new_event, cell_at, mode_of, place_at, Access, access_by, made_by, given_by, Targets, Field, Labels, Fine, Accesses, is_access, tells, IsSaidBy, TurnsTell}, Tables.{header_at, header_in, header_of}}
 use Rattle.sharc_meaning.specs.{Events.freed_by, Reference.number_of}
 
 abbrev pub access_said : Option SourceEvent → Option Access
@@ -104,15 +104,6 @@ module _ (code : Code) (m : Machine) where
     pub freed : (r layout site all : ℕ) → i ≡ Instr.Free r layout site → m.own.stage ≡ Uncounts all → ref m r < 2 ^ 32
 
   pub about : (i : Instr) (found elements : ℕ) → AreLow i → About m.own.number (header_of i m.own.stage) (given_at i m) (freed_at i m) (said code i m found elements)
-  about (Instr.Load r c site) found elements low = record { thread = refl; makes = refl; gives = refl; frees = refl }
-  about (Instr.Store r c site) found elements low = record { thread = refl; makes = refl; gives = refl; frees = refl }
-  about (Instr.LoadRef c site) found elements low = record { thread = refl; makes = refl; gives = refl; frees = refl }
-  about (Instr.Exchange r c site) found elements low = record { thread = refl; makes = refl; gives = refl; frees = refl }
-  about (Instr.TakeCell r c site) found elements low = record { thread = refl; makes = refl; gives = refl; frees = refl }
-  about (Instr.Unlock r c site) found elements low = record { thread = refl; makes = refl; gives = refl; frees = refl }
-  about (Instr.Print r site) found elements low = record { thread = refl; makes = refl; gives = refl; frees = refl }
-  about (Instr.CondEnter c site) found elements low = record { thread = refl; makes = refl; gives = refl; frees = refl }
-  about (Instr.CondBroadcast c site) found elements low = record { thread = refl; makes = refl; gives = refl; frees = refl }
   about (Instr.TakeLocal r from site) found elements low = at_local site (ref m from) elements
   about (Instr.Give r site) found elements low = record { thread = refl; makes = refl; gives = ap (λ n. Some n) (number_back (ref m r) elements (low.given r site refl)); frees = refl }
   about (Instr.New r count cells site) found elements low = at_new site cells m.own.stage low.header
@@ -124,12 +115,12 @@ module _ (code : Code) (m : Machine) where
   about Instr.Exit found elements low = at_exit m.own.stage
   about (Instr.CondWait c site) found elements low = either m.own.number None None None (waits_in found m.own.number) _ _ none (record { thread = refl; makes = refl; gives = refl; frees = refl })
   about (Instr.CondSignal c site) found elements low = at_signal c site found m.own.stage
-  about _ found elements low = none
+  about _ found elements low = record { thread = refl; makes = refl; gives = refl; frees = refl }
 
 -- ---- accesses
 module _ (code : Code) (m : Machine) where
-  pub no_access : (i : Instr) (found elements : ℕ) → is_access i ≡ false → access_said (said code i m found elements) ≡ None
-  no_access i found elements e = by (said code i m found elements) (told_by code m i found elements)
+  pub no_access : TurnsTell → (i : Instr) (found elements : ℕ) → is_access i ≡ false → access_said (said code i m found elements) ≡ None
+  no_access tell i found elements e = by (said code i m found elements) (tell code i m found elements)
     where
       of : (a : Act) → tells a i ≡ true → access_by a ≡ None
       of (Act.Read c mode) w = absurd (let z : true ≡ false = sym w ∙ e in cc)
@@ -138,9 +129,9 @@ module _ (code : Code) (m : Machine) where
       of (Act.Take (Taken.Local n) kind) w = refl
       of _ w = refl
 
-      by : (ev : Option SourceEvent) → IsToldBy i ev → access_said ev ≡ None
+      by : (ev : Option SourceEvent) → IsSaidBy i m ev → access_said ev ≡ None
       by None w = refl
-      by (Some d) w = of d.act w
+      by (Some d) w = of d.act w.1
 
 -- the access that a turn of typed code tells
 abbrev pub access_at : Code → Machine → Cell → ℕ → Bool → Access

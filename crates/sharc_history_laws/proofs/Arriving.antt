@@ -1,5 +1,5 @@
 -- Only the last turn of a Clear leads to a place where it is known that an object was cleared.
-use Rattle.sharc_history_laws.proofs.{Imports.{◌≡◌, ℕ, zero, suc, ◌<◌, ◌≤◌, ◌⊎◌, inl, inr, Bool, true, false, length, List, [], ◌∷◌, if◌then◌else◌, refl, sym, ap, ◌∙◌, subst, ⊎_elim, arith, cases_lt, slice_index_or, Code, Parameter, Int, Instr, Clear, Free, Start, Exit, Shape, Stage, Rests, Enters, Machine, act, has_room, with_parameter, entered, start, function_of, place, instr_at, no_function, after, may_go, Gate, Closed, Checked, Holds, Loaded, HoldsLoaded, Sole, Label, Labels, Leads, LessGate, View, FramesStand, IsWellTyped, Fine, entry_label, Targets, yes}, Onward.{Ways, onward, walks, IsUncleared}}
+use Rattle.sharc_history_laws.proofs.{Imports.{◌≡◌, ℕ, zero, suc, ◌<◌, ◌≤◌, ◌⊎◌, inl, inr, Bool, true, false, length, List, [], ◌∷◌, if◌then◌else◌, refl, sym, ap, ◌∙◌, subst, ⊎_elim, arith, cases_lt, slice_index_or, Code, Parameter, Int, Instr, Shape, Stage, Rests, Enters, Machine, act, has_room, with_parameter, entered, start, function_of, place, instr_at, no_function, after, may_go, Gate, Closed, Checked, Holds, Loaded, HoldsLoaded, Sole, Label, Labels, Leads, LessGate, View, FramesStand, IsWellTyped, Fine, entry_label, Targets, yes}, Onward.{Ways, onward, walks, IsUncleared}}
 
 -- ---- gates
 not_sole : (k : Gate) (r : ℕ) → IsUncleared k → LessGate k (Sole r true) → ⊥
@@ -16,8 +16,8 @@ less_uncleared k (Sole r true) u h = not_sole k r u h
 less_uncleared k _ u h = tt
 
 abbrev pub is_clearing : Instr → Bool
-is_clearing (Clear r cells) = true
-is_clearing (Free r layout site) = true
+is_clearing (Instr.Clear r cells) = true
+is_clearing (Instr.Free r layout site) = true
 is_clearing _ = false
 
 -- after a turn of another instruction nothing is being cleared, and the thread is at its place still or it is not known there that an object was cleared
@@ -37,8 +37,8 @@ module _ (x : Targets) (code : Code) (s : Shape) (ls : Labels) (wt : IsWellTyped
   leads : (to : ℕ) (k : Label) → IsUncleared k.gate → Leads ls to k → U to
   leads to k u h = less_uncleared k.gate (ls.at to).gate u h.gate
 
-  exit_closed : (to : ℕ) → instr_at code to ≡ Exit → U to
-  exit_closed to is = let f : Fine x code ls to (ls.at to) Exit = subst (Fine x code ls to (ls.at to)) is (wt.fine to) in subst IsUncleared (sym f.0) tt
+  exit_closed : (to : ℕ) → instr_at code to ≡ Instr.Exit → U to
+  exit_closed to is = let f : Fine x code ls to (ls.at to) Instr.Exit = subst (Fine x code ls to (ls.at to)) is (wt.fine to) in subst IsUncleared (sym f.0) tt
 
   either : (b : Bool) (y z : Machine) → Arrives ls m y → Arrives ls m z → Arrives ls m (if b then y else z)
   either true y z h k = h
@@ -80,7 +80,7 @@ module _ (x : Targets) (code : Code) (s : Shape) (ls : Labels) (wt : IsWellTyped
   }
 
   pub arriving : (i : Instr) (found : ℕ) → is_clearing i ≡ false → Fine x code ls m.at.pc (ls.at m.at.pc) i → Arrives ls m (after (act code s i m) found)
-  arriving (Clear r cells) found other f = absurd (yes other)
-  arriving (Free r layout site) found other f = absurd (yes other)
-  arriving (Start site) found other f = at_start site m.own.stage found
+  arriving (Instr.Clear r cells) found other f = absurd (yes other)
+  arriving (Instr.Free r layout site) found other f = absurd (yes other)
+  arriving (Instr.Start site) found other f = at_start site m.own.stage found
   arriving i found other f = onward x code s ls wt m t v frames (λ y. Arrives ls m y) U ways i found refl f

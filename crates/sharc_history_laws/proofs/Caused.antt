@@ -52,7 +52,7 @@ module _ (laws : TheLaws) (x : Targets) (code : Code) (s : Shape) (ls : Labels) 
 
     pub the_report : Report
     the_report =
-        let a = stop_is laws.run.turns.outcomes laws.shadow laws.cells x code s ls typed.wt typed.fits g w.consists.world w.consists.state report run.1 fresh w.remains c stop in
+        let a = stop_is laws.run.turns laws.shadow laws.cells x code s ls typed.wt typed.fits g w.consists.world w.consists.state report run.1 fresh w.remains c stop in
         of a.0 a.1 a.2 a.3 a.4 a.5 a.6 a.7
       where
         site_now_is : (kind : Kind) (cell : Cell) (site : ℕ) → site_of_check (check_of kind cell site) ≡ Some site

@@ -107,7 +107,7 @@ module _ (laws : TheLaws) (x : Targets) (code : Code) (s : Shape) (ls : Labels) 
 
     -- the bit that it sets
     pub adds : (ok : Bool) → touch_at code s (place_after code s earlier) one ≡ CheckOf kind p ok → AddsAccess (word_at (place_after code s earlier) p) (word_at (place_after code s (one ∷ earlier)) p) one.thread kind
-    adds ok touch = check_bit laws.run.turns.outcomes laws.shadow laws.cells x code s ls typed.wt typed.fits g world st one run.1 fresh w.remains kind p ok k.low touch
+    adds ok touch = check_bit laws.run.turns laws.shadow laws.cells x code s ls typed.wt typed.fits g world st one run.1 fresh w.remains kind p ok k.low touch
 
     -- its object is there behind it
     pub there_then : (o j : ℕ) (live : (world.obj o).live ≡ true) (inside : 2 * j < st.cells o) → StillThere laws x code s ls typed one earlier run w o j live inside

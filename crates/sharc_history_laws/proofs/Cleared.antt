@@ -1,5 +1,5 @@
 -- No bit stands in the granules of an object that is given or freed.
-use Rattle.sharc_history_laws.proofs.{Imports.{◌≡◌, ℕ, zero, suc, ◌+◌, ◌*◌, ◌/◌, ◌^◌, ◌<◌, ◌≤◌, ◌≢◌, Bool, true, false, ◌&&◌, not, min, None, if◌then◌else◌, refl, sym, ap, ◌∙◌, subst, ⊎_elim, arith, cases_eq, nat_tests, slice_index, nat_lt, ◌==◌, Kind, Read, Write, ShadowLaws, stands, Code, Cell, Instr, Shape, Stage, Rests, Looks, Clears, Empties, Lowers, FreeLooks, FreeClears, Uncounts, Links, Fits, granules, first_shadow, granule_at, granule_of, length_word, Machine, instr_at, act, ref, place, at_stage, looks, clear, rests, free, free_looks, freed, empties, emptied, fields, layout_at, data_granules, data_granule, largest, step_of, wrote, TurnsComeOut, check_of, begun, turn, after, may_go, asked_by, Turn, Global, MayTurn, after_turn, state_now, result_of, one_thread, bounds, WordOp, Touch, Untouched, CheckOf, ClearOf, WithdrawOf, cleared_by, freed_by, touch_of, Closing, Gate, Sole, Entry, Refers, Label, Labels, Leads, LessGate, LessEntry, gated, empty, CellsAreThere, PointersAreThere, StateStands, IsOn, touch_at, State, Runs, StageStands, GateStands, OnClear, OnFree, OnHold, granules_freed, object_of_cell, number_in, view_of, IsWellTyped, Fine, HasCell, Targets, StaticType, Field, cells_of, length_at, World, IsSole, not_below, yes}, TurnAt.turn_at, Onward.{IsUncleared, walks}, Arriving.{less_uncleared, is_clearing, Arrives, arriving}, Consists.found_is, Doing.{IsCheckAt, Does, Plain, Passes, Refuses, IsNoCheck, does}, Remaining.{word_at, Remains}, Shadows.{IsNext, WordBy, word_by, at_low, in_cells}, Shared.closing_own, Single.{single, rests_hold}, Stands.{there, gate, granules_low, reads_ref, sole_ref, live_ref, target_ref}, Tables.length_kept, Writes.writes, Carried.{put_same, put_other}, Finds.same_object}
+use Rattle.sharc_history_laws.proofs.{Imports.{◌≡◌, ℕ, zero, suc, ◌+◌, ◌*◌, ◌/◌, ◌^◌, ◌<◌, ◌≤◌, ◌≢◌, Bool, true, false, ◌&&◌, not, min, None, if◌then◌else◌, refl, sym, ap, ◌∙◌, subst, ⊎_elim, arith, cases_eq, nat_tests, slice_index, nat_lt, ◌==◌, Kind, Read, Write, ShadowLaws, stands, Code, Cell, Instr, Shape, Stage, Rests, Looks, Clears, Empties, Lowers, FreeLooks, FreeClears, Uncounts, Links, Fits, granules, first_shadow, granule_at, granule_of, length_word, Machine, instr_at, act, ref, place, at_stage, looks, clear, rests, free, free_looks, freed, empties, emptied, fields, layout_at, data_granules, data_granule, largest, step_of, wrote, ThreadLaws, check_of, begun, turn, after, may_go, asked_by, Turn, Global, MayTurn, after_turn, state_now, result_of, one_thread, bounds, WordOp, Touch, Untouched, CheckOf, ClearOf, WithdrawOf, cleared_by, freed_by, touch_of, Closing, Gate, Sole, Entry, Refers, Label, Labels, Leads, LessGate, LessEntry, gated, empty, CellsAreThere, PointersAreThere, StateStands, IsOn, touch_at, State, Runs, StageStands, GateStands, OnClear, OnFree, OnHold, granules_freed, object_of_cell, number_in, view_of, IsWellTyped, Fine, HasCell, Targets, StaticType, Field, cells_of, length_at, World, IsSole, not_below, yes}, TurnAt.turn_at, Onward.{IsUncleared, walks}, Arriving.{less_uncleared, is_clearing, Arrives, arriving}, Consists.found_is, Doing.{IsCheckAt, Does, Plain, Passes, Refuses, IsNoCheck, does}, Remaining.{word_at, Remains}, Shadows.{IsNext, WordBy, word_by, at_low, in_cells}, Shared.closing_own, Single.{single, rests_hold}, Stands.{there, gate, granules_low, reads_ref, sole_ref, live_ref, target_ref}, Tables.length_kept, Writes.writes, Carried.{put_same, put_other}, Finds.same_object}
 
 -- ---- what is said of a thread that clears an object or gives it
 -- no bit stands in the first granules of an object
@@ -59,7 +59,7 @@ same_target : (l : Label) (r : ℕ) (old new : Entry) (a b : StaticType) → old
 same_target l r old new a b e h f = sym ((subst (LessEntry l r (Refers a)) f (subst (λ old. LessEntry l r old new) e h)).target)
 
 -- ---- one turn
-module _ (outs : TurnsComeOut) (laws : ShadowLaws) (state_law : StateStands) (cell_laws : CellsAreThere) (pointer_laws : PointersAreThere) (x : Targets) (code : Code) (s : Shape) (ls : Labels) (wt : IsWellTyped x code ls) (fits : Fits code s) (g : Global Machine) (world : World)
+module _ (turns : ThreadLaws) (laws : ShadowLaws) (state_law : StateStands) (cell_laws : CellsAreThere) (pointer_laws : PointersAreThere) (x : Targets) (code : Code) (s : Shape) (ls : Labels) (wt : IsWellTyped x code ls) (fits : Fits code s) (g : Global Machine) (world : World)
     (st : State x code s ls g world) (tr : Turn) (may : MayTurn bounds (one_thread code s) g tr) (fresh : (g.threads tr.thread).own.stop ≡ None) (remains : Remains s g) where
   open turn_at code s g tr use {t, m, i, found, g', m'}
 
@@ -76,7 +76,7 @@ module _ (outs : TurnsComeOut) (laws : ShadowLaws) (state_law : StateStands) (ce
   stage_at u on j is = subst (λ j. StageStands code s st.elements world st.heap g.words u (g.threads u) j (g.threads u).own.stage) is ((st.threads u).runs on.0 on.1).stage
 
   by_word : (p : ℕ) → p < granules s → WordBy touch tr.thread p (word_at g p) (word_at g' p) (wrote (g.threads tr.thread) p (word_at g p))
-  by_word p lt = word_by laws x code s ls wt fits g world st tr may p lt
+  by_word p lt = word_by turns.aims laws x code s ls wt fits g world st tr may p lt
 
   -- the object that a thread has alone
   pub record IsAlone (u r : ℕ) : Type 0 where
@@ -123,7 +123,7 @@ module _ (outs : TurnsComeOut) (laws : ShadowLaws) (state_law : StateStands) (ce
     by_cell (Cell.ObjectAt q p) hold e = no_other t q hold e
 
     check_own : (kind : Kind) (j : ℕ) (ok : Bool) → 2 * j < st.cells o → touch ≡ CheckOf kind (o + 1 + j) ok → tr.thread ≡ u
-    check_own kind j ok inside q = by (does outs code s g tr may fresh)
+    check_own kind j ok inside q = by (does turns.outcomes code s g tr may fresh)
       where
         granule : (k kind : Kind) (a p : ℕ) (b ok : Bool) → CheckOf k a b ≡ CheckOf kind p ok → a ≡ p
         granule k kind a p b ok e = cc

@@ -36,7 +36,7 @@ module _ (cell_laws : CellsAreThere) (pointers : PointersAreThere) (rights : Acc
         let h = consists laws begins_law keeps cell_laws pointers x code s ls wt fits few earlier run.0 in
         let thread : e.thread ≡ one.thread = ap (thread_said m.own.number) (sym is) ∙ (about_now cell_laws pointers rights laws keeps x code s ls wt fits few one earlier h run.1).thread ∙ number_is cell_laws pointers rights laws keeps x code s ls wt fits few one earlier h run.1 in
         let q : gone_said event ≡ true = ap gone_said is ∙ k.0 in
-        let exits : is_exit i ≡ true = some_true (is_exit i) (λ no. yes (sym q ∙ not_gone code m i found _ no)) in
+        let exits : is_exit i ≡ true = some_true (is_exit i) (λ no. yes (sym q ∙ not_gone code m laws.turns.tells i found _ no)) in
         let now : (after (turn code s m) found).at.state ≡ Ended = ends_now i refl exits _ q in
         alive (ap (λ u. ((place_after code s (one ∷ earlier)).threads u).at.state) (sym k.1 ∙ thread) ∙ ap (λ (y : Machine). y.at.state) (put_same g.threads one.thread (state_now (one_thread code s) g one)) ∙ now))
 

@@ -1,5 +1,5 @@
 -- Where a reference was loaded and is not raised the place's gate says so, and a Free that is to put its block into a list goes on.
-use Rattle.sharc_history_laws.proofs.{Imports.{◌≡◌, ℕ, zero, suc, ◌+◌, ◌⊎◌, inl, inr, Bool, true, false, List, refl, sym, ap, ◌∙◌, subst, ⊎_elim, ◌==◌, Code, Cell, Instr, Move, ComputeInt, ComputeLong, Complement, ChkWidth, ChkLockLoaded, Load, Store, LoadRef, Exchange, RaiseLoaded, TakeCell, Clear, Give, Free, Unlock, CondEnter, Shape, Links, Rests, cell_of, cell_word, Machine, act, goes, accessed, set_ref, raise, is_held, lock_checked, free, layout_at, instr_at, TurnsComeOut, is_load, turn, after, may_go, Targets, Closed, Holds, Sole, Label, Labels, Fine, World, Heap, StageStands, OnFree, WasLoaded, yes}, Outcomes.{loaded_or_gone, links_on}}
+use Rattle.sharc_history_laws.proofs.{Imports.{◌≡◌, ℕ, zero, suc, ◌+◌, ◌⊎◌, inl, inr, Bool, true, false, List, refl, sym, ap, ◌∙◌, subst, ⊎_elim, ◌==◌, Code, Cell, Instr, Shape, Links, Rests, cell_of, cell_word, Machine, act, goes, accessed, set_ref, raise, is_held, lock_checked, free, layout_at, instr_at, TurnsComeOut, is_load, turn, after, may_go, Targets, Closed, Holds, Sole, Label, Labels, Fine, World, Heap, StageStands, OnFree, WasLoaded, yes}, Outcomes.{loaded_or_gone, links_on}}
 
 -- ---- what was loaded
 closed : (l : Label) → l.gate ≡ Closed → WasLoaded l.gate → ⊥
@@ -13,34 +13,34 @@ sole l r cleared e h = subst WasLoaded e h
 
 -- instructions that may come where a reference was loaded
 abbrev pub takes_loaded : Instr → Bool
-takes_loaded (ChkLockLoaded site) = true
-takes_loaded (Load r c site) = true
-takes_loaded (Store r c site) = true
-takes_loaded (LoadRef c site) = true
-takes_loaded (Exchange r c site) = true
-takes_loaded (RaiseLoaded r) = true
-takes_loaded (TakeCell r c site) = true
+takes_loaded (Instr.ChkLockLoaded site) = true
+takes_loaded (Instr.Load r c site) = true
+takes_loaded (Instr.Store r c site) = true
+takes_loaded (Instr.LoadRef c site) = true
+takes_loaded (Instr.Exchange r c site) = true
+takes_loaded (Instr.RaiseLoaded r) = true
+takes_loaded (Instr.TakeCell r c site) = true
 takes_loaded _ = false
 
 -- at the others none was
 pub unloaded : (x : Targets) (code : Code) (ls : Labels) (pc : ℕ) (l : Label) (i : Instr) → takes_loaded i ≡ false → Fine x code ls pc l i → WasLoaded l.gate → ⊥
-unloaded x code ls pc l (Move r from) e f = ⊎_elim (λ h. closed l h.0) (λ h. closed l h.3.0) f
-unloaded x code ls pc l (ComputeInt operator r a b site) e f = closed l f.1.0
-unloaded x code ls pc l (ComputeLong operator r a b site) e f = closed l f.1.0
-unloaded x code ls pc l (Complement r a) e f = closed l f.2.0
-unloaded x code ls pc l (ChkWidth width r site) e f = ⊎_elim (λ h. closed l h.0) (λ h. closed l h.0) f
-unloaded x code ls pc l (ChkLockLoaded site) e f = absurd (yes e)
-unloaded x code ls pc l (Load r c site) e f = absurd (yes e)
-unloaded x code ls pc l (Store r c site) e f = absurd (yes e)
-unloaded x code ls pc l (LoadRef c site) e f = absurd (yes e)
-unloaded x code ls pc l (Exchange r c site) e f = absurd (yes e)
-unloaded x code ls pc l (RaiseLoaded r) e f = absurd (yes e)
-unloaded x code ls pc l (TakeCell r c site) e f = absurd (yes e)
-unloaded x code ls pc l (Clear r cells) e f = sole l r false f.0
-unloaded x code ls pc l (Give r site) e f = sole l r true f.0
-unloaded x code ls pc l (Free r layout site) e f = sole l r f.0.0 f.0.1
-unloaded x code ls pc l (Unlock r c site) e f = held l c f.0
-unloaded x code ls pc l (CondEnter c site) e f = ⊎_elim (λ h. closed l h) (λ h. held l h.0 h.1) f.0
+unloaded x code ls pc l (Instr.Move r from) e f = ⊎_elim (λ h. closed l h.0) (λ h. closed l h.3.0) f
+unloaded x code ls pc l (Instr.ComputeInt operator r a b site) e f = closed l f.1.0
+unloaded x code ls pc l (Instr.ComputeLong operator r a b site) e f = closed l f.1.0
+unloaded x code ls pc l (Instr.Complement r a) e f = closed l f.2.0
+unloaded x code ls pc l (Instr.ChkWidth width r site) e f = ⊎_elim (λ h. closed l h.0) (λ h. closed l h.0) f
+unloaded x code ls pc l (Instr.ChkLockLoaded site) e f = absurd (yes e)
+unloaded x code ls pc l (Instr.Load r c site) e f = absurd (yes e)
+unloaded x code ls pc l (Instr.Store r c site) e f = absurd (yes e)
+unloaded x code ls pc l (Instr.LoadRef c site) e f = absurd (yes e)
+unloaded x code ls pc l (Instr.Exchange r c site) e f = absurd (yes e)
+unloaded x code ls pc l (Instr.RaiseLoaded r) e f = absurd (yes e)
+unloaded x code ls pc l (Instr.TakeCell r c site) e f = absurd (yes e)
+unloaded x code ls pc l (Instr.Clear r cells) e f = sole l r false f.0
+unloaded x code ls pc l (Instr.Give r site) e f = sole l r true f.0
+unloaded x code ls pc l (Instr.Free r layout site) e f = sole l r f.0.0 f.0.1
+unloaded x code ls pc l (Instr.Unlock r c site) e f = held l c f.0
+unloaded x code ls pc l (Instr.CondEnter c site) e f = ⊎_elim (λ h. closed l h) (λ h. held l h.0 h.1) f.0
 unloaded x code ls pc l _ e f = closed l f.0
 
 -- what the thread has loaded is 0, or its place's gate says that it was loaded
@@ -70,20 +70,20 @@ module _ (x : Targets) (code : Code) (s : Shape) (ls : Labels) (m : Machine) whe
   if_checked false false mutex site is next h = rw (is, lock_checked) h
 
   pub loaded_still : TurnsComeOut → (i : Instr) (found : ℕ) → Fine x code ls m.at.pc here i → LoadedStands ls m → LoadedStands ls (after (act code s i m) found)
-  loaded_still outs (ChkLockLoaded site) found fine h =
+  loaded_still outs (Instr.ChkLockLoaded site) found fine h =
       let mutex = cell_word s (cell_of m.pending 0) in
       if_checked (m.pending == 0) (is_held m mutex) mutex site refl (subst WasLoaded (sym fine.5.gate) tt) h
-  loaded_still outs (LoadRef c site) found fine h = inr (subst WasLoaded (sym fine.4.gate) tt)
-  loaded_still outs (Load r c site) found fine h = inl refl
-  loaded_still outs (Store r c site) found fine h = inl refl
-  loaded_still outs (Exchange r c site) found fine h = inl refl
-  loaded_still outs (TakeCell r c site) found fine h = inl refl
-  loaded_still outs (RaiseLoaded r) found fine h = inl (raised m.pending found (goes (accessed (set_ref m r m.pending))) refl)
+  loaded_still outs (Instr.LoadRef c site) found fine h = inr (subst WasLoaded (sym fine.4.gate) tt)
+  loaded_still outs (Instr.Load r c site) found fine h = inl refl
+  loaded_still outs (Instr.Store r c site) found fine h = inl refl
+  loaded_still outs (Instr.Exchange r c site) found fine h = inl refl
+  loaded_still outs (Instr.TakeCell r c site) found fine h = inl refl
+  loaded_still outs (Instr.RaiseLoaded r) found fine h = inl (raised m.pending found (goes (accessed (set_ref m r m.pending))) refl)
   loaded_still outs i found fine h = stands_on outs i found refl refl fine h
 
 -- ---- the last turn of a Free
-no_free : (P : ℕ → ℕ → Type 0) (i : Instr) → OnFree P i → (r : ℕ) × (layout : ℕ) × (site : ℕ) × (i ≡ Free r layout site)
-no_free P (Free r layout site) h = (r, layout, site, refl)
+no_free : (P : ℕ → ℕ → Type 0) (i : Instr) → OnFree P i → (r : ℕ) × (layout : ℕ) × (site : ℕ) × (i ≡ Instr.Free r layout site)
+no_free P (Instr.Free r layout site) h = (r, layout, site, refl)
 no_free P _ h = absurd h
 
 module _ (code : Code) (s : Shape) (m : Machine) where
@@ -91,7 +91,7 @@ module _ (code : Code) (s : Shape) (m : Machine) where
   abbrev pub LinksOn : Machine → Type 0
   LinksOn y = (e : ℕ) → y.own.stage ≡ Links e → may_go y.at.state ≡ true
 
-  linked : TurnsComeOut → (i : Instr) (found e : ℕ) → (m.own.stage ≡ Links e → (r : ℕ) × (layout : ℕ) × (site : ℕ) × (i ≡ Free r layout site)) → (after (act code s i m) found).own.stage ≡ Links e → may_go (after (act code s i m) found).at.state ≡ true
+  linked : TurnsComeOut → (i : Instr) (found e : ℕ) → (m.own.stage ≡ Links e → (r : ℕ) × (layout : ℕ) × (site : ℕ) × (i ≡ Instr.Free r layout site)) → (after (act code s i m) found).own.stage ≡ Links e → may_go (after (act code s i m) found).at.state ≡ true
   linked outs i found e free_at q = ⊎_elim
       (λ (z : m.own.stage ≡ Links e).
       let k = free_at z in

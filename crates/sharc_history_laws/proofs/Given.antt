@@ -1,5 +1,5 @@
 -- What a thread was given to begin with, its function and its argument, no turn writes once the thread is started.
-use Rattle.sharc_history_laws.proofs.{Imports.{◌≡◌, ℕ, ◌<◌, ◌≢◌, List, Option, Some, None, refl, sym, ap, ◌∙◌, subst, arith, get_or-set_other, slice_index, THREADS, WordStep, WordEvent, word_after, words_after_step, Code, Instr, Shape, state_word, function_word, argument_word, Machine, StepTurn as Act, Local, Asks, step_of, word, new, instr_at, turn, asked_by, words_now, World, Heap, StageStands}, Tables.step_leaves, Aims.{Aims, TurnAims, Reserved, typed_aims}}
+use Rattle.sharc_history_laws.proofs.{Imports.{◌≡◌, ℕ, ◌<◌, ◌≢◌, List, Option, Some, None, refl, sym, ap, ◌∙◌, subst, arith, get_or-set_other, slice_index, THREADS, WordStep, WordEvent, word_after, words_after_step, Code, Instr, Shape, state_word, function_word, argument_word, Machine, StepTurn as Act, Local, Asks, step_of, word, instr_at, turn, asked_by, words_now, World, Heap, StageStands, inl, inr, Stage, Names, Hands, drawn_of, Aim, TurnAim, TurnsAim}, Tables.step_leaves, Aims.{drawn_is, typed_aim}}
 use Rattle.sharc_code.specs.Runs as Runs
 
 -- a step that leaves its word, or is on another than these two of thread n
@@ -11,26 +11,33 @@ abbrev pub TurnSpares : ℕ → Act → Type 0
 TurnSpares n (Local y) = Unit {0}
 TurnSpares n (Asks step go) = SparesGiven n step
 
-module _ (s : Shape) (n : ℕ) (few : n < THREADS) (code : Code) (elements : ℕ → ℕ) (w : World) (heap : Heap) (words : List ℕ) (t : ℕ) (m : Machine) (started : slice_index words (state_word n) ≢ 0) where
+module _ (aims : TurnsAim) (s : Shape) (n : ℕ) (few : n < THREADS) (code : Code) (elements : ℕ → ℕ) (w : World) (heap : Heap) (words : List ℕ) (t : ℕ) (m : Machine) (started : slice_index words (state_word n) ≢ 0) where
+  abbrev Stands : Instr → Type 0
+  Stands i = StageStands code s elements w heap words t m i m.own.stage
+
   -- a thread that is being spawned is another
-  apart : (k : ℕ) → slice_index words (state_word k) ≡ 0 → k ≡ n → ⊥
-  apart k new same = started (ap (λ k. slice_index words (state_word k)) (sym same) ∙ new)
+  apart : (i : Instr) (stage : Stage) (k : ℕ) → Stands i → m.own.stage ≡ stage → drawn_of stage ≡ Some k → k ≡ n → ⊥
+  apart i stage k h at drawn same = started (ap (λ k. slice_index words (state_word k)) (sym same) ∙ (drawn_is code s elements w heap words t m i stage k h at drawn).1)
 
-  spared : (i : Instr) (step : WordStep) → Aims s (Reserved words) i step → SparesGiven n step
-  spared i step (Aims.Same keeps) = Leaves keeps
-  spared i step (Aims.First lt unnumbered) = Elsewhere (λ e. omega arith) (λ e. omega arith)
-  spared i step (Aims.OfState k low owns at) = Elsewhere (λ e. omega (arith, at, e)) (λ e. omega (arith, at, e))
-  spared i step (Aims.OfFunction k d at) = Elsewhere (λ e. apart k d.1 (omega (arith, at, e))) (λ e. omega (arith, at, e))
-  spared i step (Aims.OfArgument k d at) = Elsewhere (λ e. omega (arith, at, e)) (λ e. apart k d.1 (omega (arith, at, e)))
-  spared i step (Aims.OfShadow touches le) = Elsewhere (λ e. omega arith) (λ e. omega arith)
-  spared i step (Aims.Above le) = Elsewhere (λ e. omega arith) (λ e. omega arith)
+  spared : (i : Instr) (step : WordStep) → Stands i → Aim s i m step → SparesGiven n step
+  spared i step h (Aim.Looks keeps) = Leaves keeps
+  spared i step h (Aim.Draws spawns at) = Elsewhere (λ e. omega (arith, at, e)) (λ e. omega (arith, at, e))
+  spared i step h (Aim.Prints prints at) = Elsewhere (λ e. omega (arith, at, e)) (λ e. omega (arith, at, e))
+  spared i step h (Aim.Names k is at) = Elsewhere (λ e. apart i (Names k) k h is refl (omega (arith, at, e))) (λ e. omega (arith, at, e))
+  spared i step h (Aim.Hands k is at) = Elsewhere (λ e. omega (arith, at, e)) (λ e. apart i (Hands k) k h is refl (omega (arith, at, e)))
+  spared i step h (Aim.Begins k spawns is at op) = Elsewhere (λ e. omega (arith, at, e)) (λ e. omega (arith, at, e))
+  spared i step h (Aim.Returns exits at op) = Elsewhere (λ e. omega (arith, at, e)) (λ e. omega (arith, at, e))
+  spared i step h (Aim.Ends exits at op) = Elsewhere (λ e. omega (arith, at, e)) (λ e. omega (arith, at, e))
+  spared i step h (Aim.Shadows granule changes at) = Elsewhere (λ e. omega (arith, at, e, few)) (λ e. omega (arith, at, e, few))
+  spared i step h (Aim.Stores (inl low)) = Elsewhere (λ e. omega (arith, low, e)) (λ e. omega (arith, low, e))
+  spared i step h (Aim.Stores (inr high)) = Elsewhere (λ e. omega (arith, high, e, few)) (λ e. omega (arith, high, e, few))
 
-  by_turn : (i : Instr) (y : Act) → TurnAims s (Reserved words) i y → TurnSpares n y
-  by_turn i (Local y) h = tt
-  by_turn i (Asks step go) h = spared i step h
+  by_turn : (i : Instr) (y : Act) → Stands i → TurnAim s i m y → TurnSpares n y
+  by_turn i (Local y) h aim = tt
+  by_turn i (Asks step go) h aim = spared i step h aim
 
-  pub spares_given : StageStands code s elements w heap words t m (instr_at code m.at.pc) m.own.stage → TurnSpares n (turn code s m)
-  spares_given h = by_turn (instr_at code m.at.pc) (turn code s m) (typed_aims code s elements w heap words t m (instr_at code m.at.pc) h)
+  pub spares_given : Stands (instr_at code m.at.pc) → TurnSpares n (turn code s m)
+  spares_given h = by_turn (instr_at code m.at.pc) (turn code s m) h (typed_aim code s elements w heap words t m aims (instr_at code m.at.pc) h)
 
 -- so both words stay
 module _ (n : ℕ) (words : List ℕ) where

@@ -14,7 +14,7 @@ module _ (laws : TheLaws) (x : Targets) (code : Code) (s : Shape) (ls : Labels) 
   fresh = fresh_of laws x code s ls typed one earlier run w.halting
 
   abbrev Alone : ℕ → Type 0
-  Alone r = IsAlone laws.run.turns.outcomes laws.shadow laws.state laws.cells laws.pointers x code s ls typed.wt typed.fits g world st one run.1 fresh w.remains one.thread r
+  Alone r = IsAlone laws.run.turns laws.shadow laws.state laws.cells laws.pointers x code s ls typed.wt typed.fits g world st one run.1 fresh w.remains one.thread r
 
   stage_at : (j : Instr) → i ≡ j → (y : Stage) → ((place_after code s earlier).threads one.thread).own.stage ≡ y → StageStands code s st.elements world st.heap (place_after code s earlier).words one.thread ((place_after code s earlier).threads one.thread) j y
   stage_at j is y at = subst (StageStands code s st.elements world st.heap g.words t m j) at (subst (λ j. StageStands code s st.elements world st.heap g.words t m j m.own.stage) is ((st.threads t).runs on.0 on.1).stage)
@@ -22,16 +22,16 @@ module _ (laws : TheLaws) (x : Targets) (code : Code) (s : Shape) (ls : Labels) 
   -- no other thread has it alone
   not_alone : (r : ℕ) → Alone r → ref ((place_after code s earlier).threads one.thread) r ≡ o → ⊥
   not_alone r alone e =
-      let nz : o ≢ 0 = λ z. some laws.run.turns.outcomes laws.shadow laws.state laws.cells laws.pointers x code s ls typed.wt typed.fits g world st one run.1 fresh w.remains t on r alone (e ∙ z) in
+      let nz : o ≢ 0 = λ z. some laws.run.turns laws.shadow laws.state laws.cells laws.pointers x code s ls typed.wt typed.fits g world st one run.1 fresh w.remains t on r alone (e ∙ z) in
       let q = refers nz in
-      ne (no_other laws.run.turns.outcomes laws.shadow laws.state laws.cells laws.pointers x code s ls typed.wt typed.fits g world st one run.1 fresh w.remains t on r alone v q.0 hold (q.1 ∙ sym e))
+      ne (no_other laws.run.turns laws.shadow laws.state laws.cells laws.pointers x code s ls typed.wt typed.fits g world st one run.1 fresh w.remains t on r alone v q.0 hold (q.1 ∙ sym e))
 
   ungiven : (j : Instr) → i ≡ j → given_at j ((place_after code s earlier).threads one.thread) ≡ Some o → ⊥
-  ungiven (Instr.Give r site) is e = let same : ref m r ≡ o = cc in not_alone r (alone_give laws.run.turns.outcomes laws.shadow laws.state laws.cells laws.pointers x code s ls typed.wt typed.fits g world st one run.1 fresh w.remains t r site on is) same
+  ungiven (Instr.Give r site) is e = let same : ref m r ≡ o = cc in not_alone r (alone_give laws.run.turns laws.shadow laws.state laws.cells laws.pointers x code s ls typed.wt typed.fits g world st one run.1 fresh w.remains t r site on is) same
   ungiven _ is e = let f : None ≡ Some o = e in cc
 
   unfreed_at : (r layout site : ℕ) → i ≡ Instr.Free r layout site → (y : Stage) → ((place_after code s earlier).threads one.thread).own.stage ≡ y → freed_in y (ref ((place_after code s earlier).threads one.thread) r) ≡ Some o → ⊥
-  unfreed_at r layout site is (Uncounts all) at e = let same : ref m r ≡ o = cc in not_alone r (alone_free laws.run.turns.outcomes laws.shadow laws.state laws.cells laws.pointers x code s ls typed.wt typed.fits g world st one run.1 fresh w.remains t r layout site (Uncounts all) is at tt) same
+  unfreed_at r layout site is (Uncounts all) at e = let same : ref m r ≡ o = cc in not_alone r (alone_free laws.run.turns laws.shadow laws.state laws.cells laws.pointers x code s ls typed.wt typed.fits g world st one run.1 fresh w.remains t r layout site (Uncounts all) is at tt) same
   unfreed_at r layout site is _ at e = let f : None ≡ Some o = e in cc
 
   unfreed : (j : Instr) → i ≡ j → freed_at j ((place_after code s earlier).threads one.thread) ≡ Some o → ⊥
@@ -47,23 +47,23 @@ module _ (laws : TheLaws) (x : Targets) (code : Code) (s : Shape) (ls : Labels) 
   clear_is : (r done : ℕ) (alone : Alone r) → 2 * done < st.cells (ref ((place_after code s earlier).threads one.thread) r) → ClearOf (granule_at s (data_granule (ref ((place_after code s earlier).threads one.thread) r) done)) ≡ ClearOf (o + 1 + k) → ⊥
   clear_is r done alone low e =
       let h = ref m r in
-      let lives = live_one laws.run.turns.outcomes laws.shadow laws.state laws.cells laws.pointers x code s ls typed.wt typed.fits g world st one run.1 fresh w.remains t on r alone in
+      let lives = live_one laws.run.turns laws.shadow laws.state laws.cells laws.pointers x code s ls typed.wt typed.fits g world st one run.1 fresh w.remains t on r alone in
       let f : granule_at s (data_granule h done) ≡ o + 1 + k = cc in
       let q : h + 1 + done ≡ o + 1 + k = sym (at_low s (h + 1 + done) (st.apart.within h done lives low)) ∙ f in
-      not_alone r alone (object_one laws.run.turns.outcomes laws.shadow laws.state laws.cells laws.pointers x code s ls typed.wt typed.fits g world st one run.1 fresh w.remains t on r alone h o done k lives live low inside q)
+      not_alone r alone (object_one laws.run.turns laws.shadow laws.state laws.cells laws.pointers x code s ls typed.wt typed.fits g world st one run.1 fresh w.remains t on r alone h o done k lives live low inside q)
 
   by_clear : (r count : ℕ) → i ≡ Instr.Clear r count → (y : Stage) → ((place_after code s earlier).threads one.thread).own.stage ≡ y → cleared_by s (ref ((place_after code s earlier).threads one.thread) r) y ≡ ClearOf (o + 1 + k) → ⊥
   by_clear r count is (Clears done all seen) at e =
-      let alone = alone_clear laws.run.turns.outcomes laws.shadow laws.state laws.cells laws.pointers x code s ls typed.wt typed.fits g world st one run.1 fresh w.remains t r count (Clears done all seen) is at tt in
+      let alone = alone_clear laws.run.turns laws.shadow laws.state laws.cells laws.pointers x code s ls typed.wt typed.fits g world st one run.1 fresh w.remains t r count (Clears done all seen) is at tt in
       let h = stage_at (Instr.Clear r count) is (Clears done all seen) at in
-      clear_is r done alone (clear_inside laws.run.turns.outcomes laws.shadow laws.state laws.cells laws.pointers x code s ls typed.wt typed.fits g world st one run.1 fresh w.remains t r count on alone is all h.0 done h.1.0) e
+      clear_is r done alone (clear_inside laws.run.turns laws.shadow laws.state laws.cells laws.pointers x code s ls typed.wt typed.fits g world st one run.1 fresh w.remains t r count on alone is all h.0 done h.1.0) e
   by_clear r count is _ at e = cc
 
   by_free : (r layout site : ℕ) → i ≡ Instr.Free r layout site → (y : Stage) → ((place_after code s earlier).threads one.thread).own.stage ≡ y → freed_by s (ref ((place_after code s earlier).threads one.thread) r) y ≡ ClearOf (o + 1 + k) → ⊥
   by_free r layout site is (FreeClears done all seen) at e =
-      let alone = alone_free laws.run.turns.outcomes laws.shadow laws.state laws.cells laws.pointers x code s ls typed.wt typed.fits g world st one run.1 fresh w.remains t r layout site (FreeClears done all seen) is at tt in
+      let alone = alone_free laws.run.turns laws.shadow laws.state laws.cells laws.pointers x code s ls typed.wt typed.fits g world st one run.1 fresh w.remains t r layout site (FreeClears done all seen) is at tt in
       let h = stage_at (Instr.Free r layout site) is (FreeClears done all seen) at in
-      clear_is r done alone (free_inside laws.run.turns.outcomes laws.shadow laws.state laws.cells laws.pointers x code s ls typed.wt typed.fits g world st one run.1 fresh w.remains t r layout site on alone is all h.0.0 done h.1.0) e
+      clear_is r done alone (free_inside laws.run.turns laws.shadow laws.state laws.cells laws.pointers x code s ls typed.wt typed.fits g world st one run.1 fresh w.remains t r layout site on alone is all h.0.0 done h.1.0) e
   by_free r layout site is _ at e = cc
 
   by_exit : (found : ℕ) (y : Stage) → withdrawn_by s ((place_after code s earlier).threads one.thread) found y ≡ ClearOf (o + 1 + k) → ⊥

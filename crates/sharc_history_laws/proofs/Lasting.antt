@@ -91,7 +91,7 @@ module _ (laws : TheLaws) (x : Targets) (code : Code) (s : Shape) (ls : Labels) 
           let still = remains_there laws x code s ls typed one now is w o k old.is_live old.is_inside t ne hold_now refers_now in
           let next = whole_next laws x code s ls typed one now is in
           record {
-            epoch = epoch_still laws.run.turns.outcomes laws.shadow laws.cells x code s ls typed.wt typed.fits (place_after code s now) w.consists.world w.consists.state one is.1 (fresh_of laws x code s ls typed one now is w.halting) w.remains (o + 1 + k) low
+            epoch = epoch_still laws.run.turns laws.shadow laws.cells x code s ls typed.wt typed.fits (place_after code s now) w.consists.world w.consists.state one is.1 (fresh_of laws x code s ls typed one now is w.halting) w.remains (o + 1 + k) low
                 (uncleared laws x code s ls typed one now is w o k old.is_live old.is_inside t ne hold_now refers_now) ∙ old.epoch;
             is_live = subst (λ (h : Consists x code s ls (one ∷ now)). (h.world.obj o).live ≡ true) (sym next) still.is_live;
             is_inside = subst (λ (h : Consists x code s ls (one ∷ now)). 2 * k < h.state.cells o) (sym next) still.is_inside;
@@ -125,7 +125,7 @@ module _ (laws : TheLaws) (x : Targets) (code : Code) (s : Shape) (ls : Labels) 
     from_before : (u : ℕ) (kind : Kind) (z : ℕ) → site_now (place_after code s before) u c.granule kind ≡ Some z → site_now (place_after code s (report ∷ before)) u c.granule kind ≡ Some z
     from_before u kind z e =
         let w = whole laws x code s ls typed before run.0 in
-        still_now laws.run.turns.outcomes laws.shadow laws.cells x code s ls typed.wt typed.fits (place_after code s before) w.consists.world w.consists.state report run.1 (fresh_of laws x code s ls typed report before run w.halting) w.remains u p kind z epoch_base e
+        still_now laws.run.turns laws.shadow laws.cells x code s ls typed.wt typed.fits (place_after code s before) w.consists.world w.consists.state report run.1 (fresh_of laws x code s ls typed report before run w.halting) w.remains u p kind z epoch_base e
 
     same_now : (one : Turn) (later : List Turn) → RunOf code s (one ∷ (later ++ report ∷ before)) → epoch_of (word_at (place_after code s (one ∷ (later ++ report ∷ before))) c.granule) ≡ epoch_of (word_at (place_after code s (later ++ report ∷ before)) c.granule)
     same_now one later is = epoch_later (one ∷ later) is ∙ sym (epoch_later later is.0)
@@ -135,7 +135,7 @@ module _ (laws : TheLaws) (x : Targets) (code : Code) (s : Shape) (ls : Labels) 
     note_later (one ∷ later) is u kind z e =
         let now = later ++ report ∷ before in
         let w = whole laws x code s ls typed now is.0 in
-        still_now laws.run.turns.outcomes laws.shadow laws.cells x code s ls typed.wt typed.fits (place_after code s now) w.consists.world w.consists.state one is.1 (fresh_of laws x code s ls typed one now is w.halting) w.remains u p kind z (same_now one later is) (note_later later is.0 u kind z e)
+        still_now laws.run.turns laws.shadow laws.cells x code s ls typed.wt typed.fits (place_after code s now) w.consists.world w.consists.state one is.1 (fresh_of laws x code s ls typed one now is w.halting) w.remains u p kind z (same_now one later is) (note_later later is.0 u kind z e)
 
     -- and no other thread than that of the report writes
     site_of_note : (o : Option Note) (n : Note) (e : ℕ) → o ≡ Some n → n.epoch ≡ e → (z : ℕ) × (site_at o e ≡ Some z)
@@ -172,8 +172,8 @@ module _ (laws : TheLaws) (x : Targets) (code : Code) (s : Shape) (ls : Labels) 
             (λ was.
             let y = site_of_note (note_of (g.threads u).own.table p Write) n.0 (epoch_of (word_at g p)) (ap (λ u. note_of (g.threads u).own.table p Write) turns ∙ was) (n.2 ∙ epochs) in
             again y.0 y.1)
-            (λ new. absurd (refused laws.run.turns.outcomes laws.shadow laws.cells x code s ls typed.wt typed.fits g w.consists.world w.consists.state one is.1 fresh w.remains t p (λ q. ne (turns ∙ sym q)) (bit_later later is.0) new.0))
-            (note_was laws.run.turns.outcomes laws.shadow laws.cells x code s ls typed.wt typed.fits g w.consists.world w.consists.state one is.1 fresh w.remains p Write n.0 (ap (λ u. note_of (g1.threads u).own.table p Write) (sym turns) ∙ n.1))
+            (λ new. absurd (refused laws.run.turns laws.shadow laws.cells x code s ls typed.wt typed.fits g w.consists.world w.consists.state one is.1 fresh w.remains t p (λ q. ne (turns ∙ sym q)) (bit_later later is.0) new.0))
+            (note_was laws.run.turns laws.shadow laws.cells x code s ls typed.wt typed.fits g w.consists.world w.consists.state one is.1 fresh w.remains p Write n.0 (ap (λ u. note_of (g1.threads u).own.table p Write) (sym turns) ∙ n.1))
 
     -- ---- stops
     -- a stop in the epoch was there before the report, or it is that of the report, or it found the word as it was at a place behind it
@@ -193,7 +193,7 @@ module _ (laws : TheLaws) (x : Targets) (code : Code) (s : Shape) (ls : Labels) 
         ⊎_elim
         (λ was. ⊎_elim (λ first. inl first) (λ (k : FoundLater later d). inr (record { after_it = k.after_it; is_run = k.is_run; old = k.old })) (stop_from later is.0 u ne d was.1))
         (λ new. inr (record { after_it = later; is_run = is.0; old = new.1.old_is }))
-        (stop_was laws.run.turns.outcomes laws.shadow laws.cells x code s ls typed.wt typed.fits (place_after code s now) w.consists.world w.consists.state one is.1 (fresh_of laws x code s ls typed one now is w.halting) w.remains u p d at)
+        (stop_was laws.run.turns laws.shadow laws.cells x code s ls typed.wt typed.fits (place_after code s now) w.consists.world w.consists.state one is.1 (fresh_of laws x code s ls typed one now is w.halting) w.remains u p d at)
 
     -- one that was there before stays
     pub stop_later : (later : List Turn) → RunOf code s (later ++ report ∷ before) → (u : ℕ) (d : ConflictAt) → StoppedAt (place_after code s before) u c.granule d → ((place_after code s (later ++ report ∷ before)).threads u ≡ (place_after code s before).threads u) × StoppedAt (place_after code s (later ++ report ∷ before)) u c.granule d

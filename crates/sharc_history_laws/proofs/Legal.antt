@@ -149,7 +149,7 @@ module _ (state_law : StateStands) (cell_laws : CellsAreThere) (pointers : Point
 
         others : is_locking i ≡ false → MayMutex L e
         others never =
-            let a = not_locked e.act (ap mutex_said (sym said_is) ∙ no_mutex code m i found elements never) in
+            let a = not_locked e.act (ap mutex_said (sym said_is) ∙ no_mutex code m laws.turns.tells i found elements never) in
             no_lock L e (λ c. ap (is_cell c) a.0) (λ c. ap (is_cell c) a.1)
 
         by : (j : Instr) → i ≡ j → MayMutex L e

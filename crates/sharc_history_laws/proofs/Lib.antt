@@ -4,7 +4,6 @@ pub mod Places
 pub mod Sorts
 pub mod Standing
 pub mod Tells
-pub mod Told
 pub mod Acts
 pub mod Behind
 pub mod Born

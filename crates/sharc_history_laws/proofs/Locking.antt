@@ -1,5 +1,5 @@
 -- The held logs of threads are those that their events tell, so an access under a lock comes while the thread holds the mutex.
-use Rattle.sharc_history_laws.proofs.{Imports.{◌≡◌, ℕ, zero, suc, ◌+◌, ◌<◌, ◌≢◌, ◌⊎◌, inl, Bool, true, false, not, ◌||◌, ◌&&◌, length, List, [], ◌∷◌, ◌++◌, reverse, Option, Some, None, if◌then◌else◌, refl, sym, ap, ◌∙◌, subst, ⊎_elim, arith, cases_eq, nat_tests, nat_lt, ◌==◌, Act, SourceEvent, CellAt, Object, CellMode, HeldMutex, with_mutex, without, Code, PlaceMode, Cell, Instr, Shape, RunLaws, Fits, first_cell, words_of, cell_of, Machine, place, object, word, is_held, taken, act, locked, goes, fails, opening_words, is_locking, turn, after, Turn, Global, IsRun, MayTurn, after_turn, put, state_now, result_of, opening_of, one_thread, bounds, place_after, said, cell_at, mode_of, place_at, event_at, lock_through, said_now, IsMutex, table_of, Access, same_object, same_cell, is_cell, locks, unlocks, is_of, History, IsAccess, Targets, FieldMode, Labels, IsWellTyped, MayAccess, IsMode, World, IsSmall, GateStands, OnHold, Keeps, CodeBegins, CellsAreThere, PointersAreThere, AccessesAreAllowed, history_of, is_below, eqb-true, not_true}, TurnAt.{turn_at, told_at, turn_stands}, Single.rests_hold, Stands.gate, Finds.{mutex_cell, pending_apart}, Consists.{Consists, consists_then, at_first}, Acts.{access_said, thread_said, no_access, access_at, IsAccess as TellsAccess, access_of}, Told.is_access, Lists.{Newest, EachAccess, no_event}, Rules.{over_runs, pushed, newest, newest_now, number_is, about_now, hold_access, each_pushed}, Holding.{cell_eq, holds_in, holds_other, holds_own}, Outcomes.logs, Mutexless.{mutex_said, no_mutex, not_locked}, Locked.{IsIn, in_append, in_without, Names, names_one, names_cell, one_place, LogTold, held_told, lock_eq, through_is}, Carried.{put_same, put_other}, LockModes.mutex_names}
+use Rattle.sharc_history_laws.proofs.{Imports.{◌≡◌, ℕ, zero, suc, ◌+◌, ◌<◌, ◌≢◌, ◌⊎◌, inl, Bool, true, false, not, ◌||◌, ◌&&◌, length, List, [], ◌∷◌, ◌++◌, reverse, Option, Some, None, if◌then◌else◌, refl, sym, ap, ◌∙◌, subst, ⊎_elim, arith, cases_eq, nat_tests, nat_lt, ◌==◌, Act, SourceEvent, CellAt, Object, CellMode, HeldMutex, with_mutex, without, Code, PlaceMode, Cell, Instr, Shape, RunLaws, Fits, first_cell, words_of, cell_of, Machine, place, object, word, is_held, taken, act, locked, goes, fails, opening_words, is_locking, turn, after, Turn, Global, IsRun, MayTurn, after_turn, put, state_now, result_of, opening_of, one_thread, bounds, place_after, said, cell_at, mode_of, place_at, event_at, lock_through, said_now, IsMutex, table_of, Access, same_object, same_cell, is_cell, locks, unlocks, is_of, History, IsAccess, Targets, FieldMode, Labels, IsWellTyped, MayAccess, IsMode, World, IsSmall, GateStands, OnHold, Keeps, CodeBegins, CellsAreThere, PointersAreThere, AccessesAreAllowed, history_of, is_below, eqb-true, not_true, is_access}, TurnAt.{turn_at, told_at, turn_stands}, Single.rests_hold, Stands.gate, Finds.{mutex_cell, pending_apart}, Consists.{Consists, consists_then, at_first}, Acts.{access_said, thread_said, no_access, access_at, IsAccess as TellsAccess, access_of}, Lists.{Newest, EachAccess, no_event}, Rules.{over_runs, pushed, newest, newest_now, number_is, about_now, hold_access, each_pushed}, Holding.{cell_eq, holds_in, holds_other, holds_own}, Outcomes.logs, Mutexless.{mutex_said, no_mutex, not_locked}, Locked.{IsIn, in_append, in_without, Names, names_one, names_cell, one_place, LogTold, held_told, lock_eq, through_is}, Carried.{put_same, put_other}, LockModes.mutex_names}
 
 object_refl : (a : Object) → same_object a a ≡ true
 object_refl (Object.Global g) = let e : (g == g) ≡ true = grind (arith, nat_tests) in e
@@ -136,7 +136,7 @@ module _ (cell_laws : CellsAreThere) (pointers : PointersAreThere) (rights : Acc
         others : is_locking i ≡ false → P (pushed ev L) (after (turn code s ((place_after code s earlier).threads one.thread)) found).own.held
         others never =
             let held = logs s i found m _ (laws.turns.outcomes code s i m found) never in
-            let silent : mutex_said ev ≡ false = ap mutex_said (sym e) ∙ no_mutex code m i found elements never in
+            let silent : mutex_said ev ≡ false = ap mutex_said (sym e) ∙ no_mutex code m laws.turns.tells i found elements never in
             subst (P (pushed ev L)) (sym held) (quiet ev e silent)
 
         by : (j : Instr) → i ≡ j → P (pushed ev L) (after (turn code s ((place_after code s earlier).threads one.thread)) found).own.held
@@ -210,7 +210,7 @@ module _ (cell_laws : CellsAreThere) (pointers : PointersAreThere) (rights : Acc
             let k = access_of x code ls m i found elements yes_ (wt.fine m.at.pc) in
             let same : access_at code m k.cell k.site k.write ≡ a = let both : Some (access_at code m k.cell k.site k.write) ≡ Some a = sym k.said_is ∙ q in cc in
             ap (λ u. holds_in L u mutex) (thread_is e said_is) ∙ held_now hold k L told mutex (ap (λ (a : Access). a.mode) same ∙ mode_is)
-        | false ↦ λ never. absurd (let f : None ≡ Some a = sym (no_access code m i found elements never) ∙ q in cc)
+        | false ↦ λ never. absurd (let f : None ≡ Some a = sym (no_access code m laws.turns.tells i found elements never) ∙ q in cc)
       ] refl
 
 -- ---- runs

@@ -1,5 +1,5 @@
 -- To which place a turn of typed code leads: what holds of each way on holds of the turn.
-use Rattle.sharc_history_laws.proofs.{Imports.{◌≡◌, ℕ, ℤ, pos, negsuc, zero, suc, ◌+◌, ◌-◌, ◌<◌, Bool, true, false, not, ◌&&◌, ◌||◌, length, List, [], ◌∷◌, Some, if◌then◌else◌, refl, sym, ap, ◌∙◌, subst, ⊎_elim, arith, ◌==◌, nat_lt, Result, Ok, Err, slice_index_or, Trap, THREADS, WordOp, waits_in, Kind, Read, Write, epoch_of, conflicts_in, NewView, told, turn_of, NewTurn, Do, Made, HeapFull, Code, Cell, Register, Int, Long, Char, Instr, Constant, Move, MoveReference, Null, ComputeInt, ComputeLong, NegateInt, NegateLong, Complement, Not, ChkWidth, Jump, JumpIfZero, JumpIfNull, Call, Return, ChkNull, ChkHeld, ChkNotHeld, ChkPositive, ChkRoom, ChkLock, ChkLockLoaded, Bounds, GlobalBounds, ChkRead, ChkWrite, Load, Store, LoadRef, Exchange, Raise, RaiseLoaded, Lower, New, TakeCell, TakeLocal, TestSole, Clear, Give, Free, Unlock, Spawn, Join, Print, Start, Exit, CondEnter, CondWait, CondSignal, CondBroadcast, Shape, Stage, Looks, Clears, Makes, FreeLooks, FreeClears, Uncounts, Names, Hands, Begins, Wakes, Withdraws, WithdrawsFrom, Leaves, computed, negated, is_zero, holds, granule_at, granule_of, cell_of, cell_word, state_word, Machine, act, int, ref, goes, asserts, with_result, has_room, called, returned, holds_none, is_of_null, is_held, indexed, wrote, checked, lock_checked, raise, lower, test, tested, after_new, asks_new, new, new_state, elements_of, spawn, function_of, wakes, signal, is_positive, place, set_ref, accessed, move_ref, trapped, locked, joined, join, woken, word, Local, Asks, step_of, instr_at, no_frame, exit, withdraws, after, may_go, Gate, Closed, Checked, Holds, Sole, Number, Label, Labels, Leads, set_number, empty, forgets, gated, knows, Within, View, FramesStand, BelowStands, frame_at, IsWellTyped, Fine, Numbers, Passes_on, LeadsChecked, called_label, without_base_of, unlocked_label, handed_label, knows_base, Targets, yes}, Sorts.note_stage}
+use Rattle.sharc_history_laws.proofs.{Imports.{◌≡◌, ℕ, ℤ, pos, negsuc, zero, suc, ◌+◌, ◌-◌, ◌<◌, Bool, true, false, not, ◌&&◌, ◌||◌, length, List, [], ◌∷◌, Some, if◌then◌else◌, refl, sym, ap, ◌∙◌, subst, ⊎_elim, arith, ◌==◌, nat_lt, Result, Ok, Err, slice_index_or, Trap, THREADS, WordOp, waits_in, Kind, Read, Write, epoch_of, conflicts_in, NewView, told, turn_of, NewTurn, Do, Made, HeapFull, Code, Cell, Register, Int, Long, Char, Instr, Shape, Stage, Looks, Clears, Makes, FreeLooks, FreeClears, Uncounts, Names, Hands, Begins, Wakes, Withdraws, WithdrawsFrom, Leaves, computed, negated, is_zero, holds, granule_at, granule_of, cell_of, cell_word, state_word, Machine, act, int, ref, goes, asserts, with_result, has_room, called, returned, holds_none, is_of_null, is_held, indexed, wrote, checked, lock_checked, raise, lower, test, tested, after_new, asks_new, new, new_state, elements_of, spawn, function_of, wakes, signal, is_positive, place, set_ref, accessed, move_ref, trapped, locked, joined, join, woken, word, Local, Asks, step_of, instr_at, no_frame, exit, withdraws, after, may_go, Gate, Closed, Checked, Holds, Sole, Number, Label, Labels, Leads, set_number, empty, forgets, gated, knows, Within, View, FramesStand, BelowStands, frame_at, IsWellTyped, Fine, Numbers, Passes_on, LeadsChecked, called_label, without_base_of, unlocked_label, handed_label, knows_base, Targets, yes}, Sorts.note_stage}
 use Rattle.sharc_code.specs.declared.instr.Instr.TheVariants.{SameReference, Lock}
 
 -- ---- stages in which granules are cleared
@@ -19,9 +19,9 @@ IsUncleared _ = Unit {0}
 -- ---- ways on
 -- an instruction that has only these
 abbrev pub is_plain : Instr → Bool
-is_plain (Clear r cells) = false
-is_plain (Free r layout site) = false
-is_plain (Start site) = false
+is_plain (Instr.Clear r cells) = false
+is_plain (Instr.Free r layout site) = false
+is_plain (Instr.Start site) = false
 is_plain _ = true
 
 -- granules are cleared after the turn only where they were before
@@ -36,10 +36,10 @@ pub record Ways (code : Code) (ls : Labels) (m : Machine) (R : Machine → Type 
   pub halts : (y : Machine) → Calms m y → may_go y.at.state ≡ false → y.at.pc ≡ m.at.pc → R y
   pub leads : (to : ℕ) (k : Label) → IsUncleared k.gate → k.function ≡ (ls.at m.at.pc).function → Leads ls to k → U to
   pub back : (to f : ℕ) (k : Label) → IsUncleared k.gate → k.function ≡ Some f → Leads ls to k → U to
-  pub ends : (to : ℕ) → instr_at code to ≡ Exit → U to
+  pub ends : (to : ℕ) → instr_at code to ≡ Instr.Exit → U to
   pub begins : (f : ℕ) → f < length code.functions.items → U (function_of code f).entry
 
-pub past_end : (is : List Instr) → slice_index_or is (length is) Exit ≡ Exit
+pub past_end : (is : List Instr) → slice_index_or is (length is) Instr.Exit ≡ Instr.Exit
 past_end [] = refl
 past_end (i ∷ is) = past_end is
 
@@ -197,57 +197,57 @@ module _ (x : Targets) (code : Code) (s : Shape) (ls : Labels) (wt : IsWellTyped
   at_signal cond _ found u = at_wake found u
 
   pub onward : (i : Instr) (found : ℕ) → is_plain i ≡ true → Fine x code ls m.at.pc (ls.at m.at.pc) i → R (after (act code s i m) found)
-  onward (Constant r v) found other f = w.arrives _ (λ h. h) (numbers r _ f)
-  onward (Move r from) found other f = w.arrives _ (λ h. h) (⊎_elim (λ h. numbers r _ h) (λ h. w.leads (pc + 1) _ tt refl h.3.2) f)
-  onward (MoveReference r from) found other f = w.arrives _ (λ h. h) (⊎_elim (λ h. closed (pc + 1) l f.0 refl h.1) (λ h. w.leads (pc + 1) _ tt refl h.5) f.1)
-  onward (Null r) found other f = w.arrives _ (λ h. h) (closed (pc + 1) l f.0 refl f.2)
-  onward (ComputeInt operator r a b site) found other f = at_result r site (computed Int operator (int m a) (int m b)) (numbers r _ f.1)
-  onward (ComputeLong operator r a b site) found other f = at_result r site (computed Long operator (int m a) (int m b)) (numbers r _ f.1)
-  onward (NegateInt r a site) found other f = at_result r site (negated Int (int m a)) (numbers r _ f)
-  onward (NegateLong r a site) found other f = at_result r site (negated Long (int m a)) (numbers r _ f)
-  onward (Complement r a) found other f = w.arrives _ (λ h. h) (numbers r _ f.2)
-  onward (Not r a) found other f = w.arrives _ (λ h. h) (numbers r _ f)
+  onward (Instr.Constant r v) found other f = w.arrives _ (λ h. h) (numbers r _ f)
+  onward (Instr.Move r from) found other f = w.arrives _ (λ h. h) (⊎_elim (λ h. numbers r _ h) (λ h. w.leads (pc + 1) _ tt refl h.3.2) f)
+  onward (Instr.MoveReference r from) found other f = w.arrives _ (λ h. h) (⊎_elim (λ h. closed (pc + 1) l f.0 refl h.1) (λ h. w.leads (pc + 1) _ tt refl h.5) f.1)
+  onward (Instr.Null r) found other f = w.arrives _ (λ h. h) (closed (pc + 1) l f.0 refl f.2)
+  onward (Instr.ComputeInt operator r a b site) found other f = at_result r site (computed Int operator (int m a) (int m b)) (numbers r _ f.1)
+  onward (Instr.ComputeLong operator r a b site) found other f = at_result r site (computed Long operator (int m a) (int m b)) (numbers r _ f.1)
+  onward (Instr.NegateInt r a site) found other f = at_result r site (negated Int (int m a)) (numbers r _ f)
+  onward (Instr.NegateLong r a site) found other f = at_result r site (negated Long (int m a)) (numbers r _ f)
+  onward (Instr.Complement r a) found other f = w.arrives _ (λ h. h) (numbers r _ f.2)
+  onward (Instr.Not r a) found other f = w.arrives _ (λ h. h) (numbers r _ f)
   onward (SameReference r a b) found other f = w.arrives _ (λ h. h) (numbers r _ f)
-  onward (ChkWidth width r site) found other f = at_assert (holds width (int m r)) Trap.OutOfRange site (⊎_elim (λ h. passes h) (λ h. numbers r _ h) f)
-  onward (Jump to) found other f = w.arrives _ (λ h. h) (closed to l f.0 refl f.1)
-  onward (JumpIfZero r to) found other f = either (is_zero (int m r)) _ _ (w.arrives _ (λ h. h) (closed to l f.0 refl f.1)) (w.arrives _ (λ h. h) (closed (pc + 1) l f.0 refl f.2))
-  onward (JumpIfNull r to) found other f = either (ref m r == 0) _ _
+  onward (Instr.ChkWidth width r site) found other f = at_assert (holds width (int m r)) Trap.OutOfRange site (⊎_elim (λ h. passes h) (λ h. numbers r _ h) f)
+  onward (Instr.Jump to) found other f = w.arrives _ (λ h. h) (closed to l f.0 refl f.1)
+  onward (Instr.JumpIfZero r to) found other f = either (is_zero (int m r)) _ _ (w.arrives _ (λ h. h) (closed to l f.0 refl f.1)) (w.arrives _ (λ h. h) (closed (pc + 1) l f.0 refl f.2))
+  onward (Instr.JumpIfNull r to) found other f = either (ref m r == 0) _ _
       (w.arrives _ (λ h. h) (⊎_elim (λ h. closed to l f.0 refl h) (λ h. w.leads to (empty l r) tt refl h.1) f.1)) (w.arrives _ (λ h. h) (closed (pc + 1) (knows l r) f.0 refl f.2))
-  onward (Call to ints refs site) found other f = at_call to ints refs site (subst U f.1.1.entry (w.begins f.1.0 f.1.1.is))
-  onward (Return site) found other f = at_return site f.1.0 f.1.1
-  onward (ChkNull r site) found other f = at_assert (not (ref m r == 0)) Trap.NullPointer site (closed (pc + 1) (knows l r) f.0 refl f.1)
-  onward (ChkHeld cell site) found other f = at_assert (is_held m (word s m cell)) Trap.MutexNotHeld site (w.leads (pc + 1) (gated l (Holds cell)) tt refl f.2)
-  onward (ChkNotHeld cell site) found other f = at_assert (not (is_held m (word s m cell))) Trap.MutexAlreadyHeld site (closed (pc + 1) l f.0 refl f.2)
-  onward (ChkPositive r site) found other f = at_assert (is_positive (int m r)) Trap.SizeNotPositive site (passes f)
-  onward (ChkRoom site) found other f = at_assert (nat_lt (length m.own.held) 16) Trap.TooManyLocks site (closed (pc + 1) (record l { room = true }) f.0 refl f.1)
-  onward (ChkLock cell site) found other f = at_lock_check (is_of_null m cell) (word s m cell) site (bases cell cell f.2)
-  onward (ChkLockLoaded site) found other f = at_lock_check (m.pending == 0) (cell_word s (cell_of m.pending 0)) site (w.leads (pc + 1) _ tt refl f.5)
-  onward (Bounds r base cells field site) found other f = at_index r (int m r) cells field site found (w.leads (pc + 1) _ tt refl f.5.2)
-  onward (GlobalBounds r elements cells field site) found other f = at_index r (int m r) cells field site elements (w.leads (pc + 1) _ tt refl f.3.2)
-  onward (ChkRead cell site) found other f = at_check Read (granule_at s (granule_of (place m cell))) site found (checks false cell f.2)
-  onward (ChkWrite cell site) found other f = at_check Write (granule_at s (granule_of (place m cell))) site found (checks true cell f.2)
-  onward (Load r cell site) found other f = w.arrives _ (λ h. h) (w.leads (pc + 1) _ tt refl f.1.4)
-  onward (Store r cell site) found other f = w.arrives _ (λ h. h) (w.leads (pc + 1) _ tt refl f.5)
-  onward (LoadRef cell site) found other f = w.arrives _ (λ h. h) (w.leads (pc + 1) _ tt refl f.4)
-  onward (Exchange r cell site) found other f = w.arrives _ (λ h. h) (w.leads (pc + 1) _ tt refl f.1.7)
-  onward (Raise r from) found other f = at_raise (ref m from) (goes (set_ref m r (ref m from))) found (w.arrives _ (λ h. h) (w.leads (pc + 1) _ tt refl f.3))
-  onward (RaiseLoaded r) found other f = at_raise m.pending (goes (accessed (set_ref m r m.pending))) found (w.arrives _ (λ h. h) (w.leads (pc + 1) _ tt refl f.1.7))
-  onward (Lower r) found other f = at_lower (ref m r) (goes (set_ref m r 0)) found (w.arrives _ (λ h. h) (⊎_elim (λ h. w.leads (pc + 1) (empty l r) tt refl h.1) (λ h. w.leads (pc + 1) (empty (forgets l r) r) tt refl h) f.2))
-  onward (New r count cells site) found other f = at_new r (elements_of (int m count)) cells site m.own.stage found (w.leads (pc + 1) _ tt refl f.2.7)
-  onward (TakeCell r cell site) found other f = w.arrives _ (λ h. h) (w.leads (pc + 1) _ tt refl f.1.5)
-  onward (TakeLocal r from site) found other f = at_test (ref m from) (goes (move_ref m r from)) found (w.arrives _ (λ h. h) (w.leads (pc + 1) _ tt refl f.6))
-  onward (TestSole r site) found other f = at_sole site found (w.leads (pc + 1) _ tt refl f.3)
-  onward (Clear r cells) found other f = absurd (yes (sym other))
-  onward (Give r site) found other f = w.arrives _ (λ h. h) (w.leads (pc + 1) _ tt refl f.2.5)
-  onward (Free r layout site) found other f = absurd (yes (sym other))
+  onward (Instr.Call to ints refs site) found other f = at_call to ints refs site (subst U f.1.1.entry (w.begins f.1.0 f.1.1.is))
+  onward (Instr.Return site) found other f = at_return site f.1.0 f.1.1
+  onward (Instr.ChkNull r site) found other f = at_assert (not (ref m r == 0)) Trap.NullPointer site (closed (pc + 1) (knows l r) f.0 refl f.1)
+  onward (Instr.ChkHeld cell site) found other f = at_assert (is_held m (word s m cell)) Trap.MutexNotHeld site (w.leads (pc + 1) (gated l (Holds cell)) tt refl f.2)
+  onward (Instr.ChkNotHeld cell site) found other f = at_assert (not (is_held m (word s m cell))) Trap.MutexAlreadyHeld site (closed (pc + 1) l f.0 refl f.2)
+  onward (Instr.ChkPositive r site) found other f = at_assert (is_positive (int m r)) Trap.SizeNotPositive site (passes f)
+  onward (Instr.ChkRoom site) found other f = at_assert (nat_lt (length m.own.held) 16) Trap.TooManyLocks site (closed (pc + 1) (record l { room = true }) f.0 refl f.1)
+  onward (Instr.ChkLock cell site) found other f = at_lock_check (is_of_null m cell) (word s m cell) site (bases cell cell f.2)
+  onward (Instr.ChkLockLoaded site) found other f = at_lock_check (m.pending == 0) (cell_word s (cell_of m.pending 0)) site (w.leads (pc + 1) _ tt refl f.5)
+  onward (Instr.Bounds r base cells field site) found other f = at_index r (int m r) cells field site found (w.leads (pc + 1) _ tt refl f.5.2)
+  onward (Instr.GlobalBounds r elements cells field site) found other f = at_index r (int m r) cells field site elements (w.leads (pc + 1) _ tt refl f.3.2)
+  onward (Instr.ChkRead cell site) found other f = at_check Read (granule_at s (granule_of (place m cell))) site found (checks false cell f.2)
+  onward (Instr.ChkWrite cell site) found other f = at_check Write (granule_at s (granule_of (place m cell))) site found (checks true cell f.2)
+  onward (Instr.Load r cell site) found other f = w.arrives _ (λ h. h) (w.leads (pc + 1) _ tt refl f.1.4)
+  onward (Instr.Store r cell site) found other f = w.arrives _ (λ h. h) (w.leads (pc + 1) _ tt refl f.5)
+  onward (Instr.LoadRef cell site) found other f = w.arrives _ (λ h. h) (w.leads (pc + 1) _ tt refl f.4)
+  onward (Instr.Exchange r cell site) found other f = w.arrives _ (λ h. h) (w.leads (pc + 1) _ tt refl f.1.7)
+  onward (Instr.Raise r from) found other f = at_raise (ref m from) (goes (set_ref m r (ref m from))) found (w.arrives _ (λ h. h) (w.leads (pc + 1) _ tt refl f.3))
+  onward (Instr.RaiseLoaded r) found other f = at_raise m.pending (goes (accessed (set_ref m r m.pending))) found (w.arrives _ (λ h. h) (w.leads (pc + 1) _ tt refl f.1.7))
+  onward (Instr.Lower r) found other f = at_lower (ref m r) (goes (set_ref m r 0)) found (w.arrives _ (λ h. h) (⊎_elim (λ h. w.leads (pc + 1) (empty l r) tt refl h.1) (λ h. w.leads (pc + 1) (empty (forgets l r) r) tt refl h) f.2))
+  onward (Instr.New r count cells site) found other f = at_new r (elements_of (int m count)) cells site m.own.stage found (w.leads (pc + 1) _ tt refl f.2.7)
+  onward (Instr.TakeCell r cell site) found other f = w.arrives _ (λ h. h) (w.leads (pc + 1) _ tt refl f.1.5)
+  onward (Instr.TakeLocal r from site) found other f = at_test (ref m from) (goes (move_ref m r from)) found (w.arrives _ (λ h. h) (w.leads (pc + 1) _ tt refl f.6))
+  onward (Instr.TestSole r site) found other f = at_sole site found (w.leads (pc + 1) _ tt refl f.3)
+  onward (Instr.Clear r cells) found other f = absurd (yes (sym other))
+  onward (Instr.Give r site) found other f = w.arrives _ (λ h. h) (w.leads (pc + 1) _ tt refl f.2.5)
+  onward (Instr.Free r layout site) found other f = absurd (yes (sym other))
   onward (Lock cell site) found other f = at_lock cell (word s m cell) found (locks cell f.4)
-  onward (Unlock r cell site) found other f = w.arrives _ (λ h. h) (unlocks r cell f.3)
-  onward (Spawn r function from site) found other f = at_spawn r function from site m.own.stage found (hands from r (Within Char) f.6)
-  onward (Join r site) found other f = at_join (int m r) site found (passes f)
-  onward (Print r site) found other f = w.arrives _ (λ h. h) (passes f)
-  onward (Start site) found other f = absurd (yes (sym other))
-  onward Exit found other f = at_exit m.own.stage found
-  onward (CondEnter cell site) found other f = w.arrives _ (λ h. h) (⊎_elim (λ h. closed (pc + 1) l h refl f.2) (λ h. w.leads (pc + 1) l (subst IsUncleared (sym h.1) tt) refl f.2) f.0)
-  onward (CondWait cell site) found other f = at_woken found (closed (pc + 1) l f.0 refl f.2)
-  onward (CondSignal cell site) found other f = at_signal (word s m cell) m.own.stage found (closed (pc + 1) l f.0 refl f.2)
-  onward (CondBroadcast cell site) found other f = w.arrives _ (λ h. h) (closed (pc + 1) l f.0 refl f.2)
+  onward (Instr.Unlock r cell site) found other f = w.arrives _ (λ h. h) (unlocks r cell f.3)
+  onward (Instr.Spawn r function from site) found other f = at_spawn r function from site m.own.stage found (hands from r (Within Char) f.6)
+  onward (Instr.Join r site) found other f = at_join (int m r) site found (passes f)
+  onward (Instr.Print r site) found other f = w.arrives _ (λ h. h) (passes f)
+  onward (Instr.Start site) found other f = absurd (yes (sym other))
+  onward Instr.Exit found other f = at_exit m.own.stage found
+  onward (Instr.CondEnter cell site) found other f = w.arrives _ (λ h. h) (⊎_elim (λ h. closed (pc + 1) l h refl f.2) (λ h. w.leads (pc + 1) l (subst IsUncleared (sym h.1) tt) refl f.2) f.0)
+  onward (Instr.CondWait cell site) found other f = at_woken found (closed (pc + 1) l f.0 refl f.2)
+  onward (Instr.CondSignal cell site) found other f = at_signal (word s m cell) m.own.stage found (closed (pc + 1) l f.0 refl f.2)
+  onward (Instr.CondBroadcast cell site) found other f = w.arrives _ (λ h. h) (closed (pc + 1) l f.0 refl f.2)

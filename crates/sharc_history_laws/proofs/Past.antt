@@ -1,5 +1,5 @@
 -- No turn but that of a Start leads to the place where threads begin.
-use Rattle.sharc_history_laws.proofs.{Imports.{◌≡◌, ℕ, ◌*◌, ◌≢◌, zero, suc, ◌+◌, ◌<◌, ◌⊎◌, inl, inr, Bool, true, false, length, Some, None, if◌then◌else◌, refl, sym, ap, ◌∙◌, min, nat_lt, Code, Layout, Instr, Clear, Free, Start, Exit, Shape, Stage, Machine, act, ref, looks, clear, data_granules, free_looks, empties, emptied, free, layout_at, function_of, fields, largest, place, instr_at, after, Looks, Clears, Empties, Lowers, FreeLooks, FreeClears, Uncounts, Links, Label, Labels, Leads, View, FramesStand, IsWellTyped, Fine, Targets}, Onward.{Ways, onward}}
+use Rattle.sharc_history_laws.proofs.{Imports.{◌≡◌, ℕ, ◌*◌, ◌≢◌, zero, suc, ◌+◌, ◌<◌, ◌⊎◌, inl, inr, Bool, true, false, length, Some, None, if◌then◌else◌, refl, sym, ap, ◌∙◌, min, nat_lt, Code, Layout, Instr, Shape, Stage, Machine, act, ref, looks, clear, data_granules, free_looks, empties, emptied, free, layout_at, function_of, fields, largest, place, instr_at, after, Looks, Clears, Empties, Lowers, FreeLooks, FreeClears, Uncounts, Links, Label, Labels, Leads, View, FramesStand, IsWellTyped, Fine, Targets}, Onward.{Ways, onward}}
 
 -- after its turn the thread is at its place still, or at none where threads begin
 pub record Departs (m y : Machine) : Type 0 where
@@ -24,8 +24,8 @@ module _ (x : Targets) (code : Code) (s : Shape) (ls : Labels) (wt : IsWellTyped
   leads : (to : ℕ) (k : Label) → k.function ≡ l.function → Leads ls to k → U to
   leads to k e h = past to f0 (h.function ∙ e ∙ known)
 
-  exit_closed : (to : ℕ) → instr_at code to ≡ Exit → U to
-  exit_closed to is e = let z : Exit ≡ Start wt.begin.0 = sym is ∙ ap (instr_at code) e ∙ wt.begin.1 in cc
+  exit_closed : (to : ℕ) → instr_at code to ≡ Instr.Exit → U to
+  exit_closed to is e = let z : Instr.Exit ≡ Instr.Start wt.begin.0 = sym is ∙ ap (instr_at code) e ∙ wt.begin.1 in cc
 
   -- ---- machines
   -- at another place
@@ -83,7 +83,7 @@ module _ (x : Targets) (code : Code) (s : Shape) (ls : Labels) (wt : IsWellTyped
   }
 
   pub arriving : (i : Instr) (found : ℕ) → Fine x code ls m.at.pc (ls.at m.at.pc) i → Departs m (after (act code s i m) found)
-  arriving (Clear r cells) found f = at_clear (ref m r) cells m.own.stage found (leads (pc + 1) _ refl f.2.3)
-  arriving (Free r layout site) found f = at_free r (layout_at code layout) m.own.stage found (leads (pc + 1) _ refl f.4)
-  arriving (Start site) found f = absurd (some_none f0 (sym known ∙ f.1))
+  arriving (Instr.Clear r cells) found f = at_clear (ref m r) cells m.own.stage found (leads (pc + 1) _ refl f.2.3)
+  arriving (Instr.Free r layout site) found f = at_free r (layout_at code layout) m.own.stage found (leads (pc + 1) _ refl f.4)
+  arriving (Instr.Start site) found f = absurd (some_none f0 (sym known ∙ f.1))
   arriving i found f = onward x code s ls wt m t v frames (λ y. Departs m y) U ways i found refl f

@@ -1,5 +1,5 @@
 -- Who waits by a history that grows by one event, and which turns tell it.
-use Rattle.sharc_history_laws.proofs.{Imports.{◌≡◌, ℕ, pos, zero, suc, ◌+◌, Bool, true, false, ◌||◌, ◌&&◌, cond, reverse, Option, Some, None, if◌then◌else◌, refl, sym, ap, ◌∙◌, subst, and_no, ◌==◌, find, Act, CellAt, SourceEvent, lowest_of, Code, Cell, Instr, Stage, Wakes, Machine, said, event_at, cell_at, nobody, in_signal, is_cell, meets, is_waiter, is_natural, signalled, broadcast_on, enters, takes_away}, Lists.{Newest, latest_is}, Rules.pushed, Touches.waited_cell, Told.{is_condition, is_enter, tells, IsToldBy, told_by}}
+use Rattle.sharc_history_laws.proofs.{Imports.{◌≡◌, ℕ, pos, zero, suc, ◌+◌, Bool, true, false, ◌||◌, ◌&&◌, cond, reverse, Option, Some, None, if◌then◌else◌, refl, sym, ap, ◌∙◌, subst, and_no, ◌==◌, find, Act, CellAt, SourceEvent, lowest_of, Code, Cell, Instr, Stage, Wakes, Machine, said, event_at, cell_at, nobody, in_signal, is_cell, meets, is_waiter, is_natural, signalled, broadcast_on, enters, takes_away, is_condition, is_enter, tells, IsSaidBy, TurnsTell}, Lists.{Newest, latest_is}, Rules.pushed, Touches.waited_cell}
 use Rattle.sharc_meaning.specs.Store.{entered}
 
 -- ---- who waits, the newest event first
@@ -78,8 +78,8 @@ woken_leaves (Some e) a c u was h =
 
 -- ---- which turns tell of waiters
 module _ (code : Code) (m : Machine) where
-  pub no_condition : (i : Instr) (found elements : ℕ) → is_condition i ≡ false → condition_said (said code i m found elements) ≡ None
-  no_condition i found elements e = by (said code i m found elements) (told_by code m i found elements)
+  pub no_condition : TurnsTell → (i : Instr) (found elements : ℕ) → is_condition i ≡ false → condition_said (said code i m found elements) ≡ None
+  no_condition tell i found elements e = by (said code i m found elements) (tell code i m found elements)
     where
       no_enter : (i : Instr) → is_condition i ≡ false → is_enter i ≡ false
       no_enter (Instr.CondEnter c site) e = absurd (let z : true ≡ false = e in cc)
@@ -92,9 +92,9 @@ module _ (code : Code) (m : Machine) where
       of (Act.Broadcast c) w = absurd (let z : true ≡ false = sym w ∙ e in cc)
       of _ w = refl
 
-      by : (ev : Option SourceEvent) → IsToldBy i ev → condition_said ev ≡ None
+      by : (ev : Option SourceEvent) → IsSaidBy i m ev → condition_said ev ≡ None
       by None w = refl
-      by (Some d) w = of d.act w
+      by (Some d) w = of d.act w.1
 
   -- ---- a turn that wakes a waiter, or finds that there is none
   of_nobody : (c : CellAt) (k : Cell) (site found : ℕ) → is_cell c (Some (cell_at code m k)) ≡ false → is_cell c (condition_said (nobody code m k site found)) ≡ false
@@ -117,13 +117,13 @@ module _ (code : Code) (m : Machine) where
   condition_elsewhere _ found elements c k w h = absurd (cc)
 
   -- ---- which turns make a waiter
-  pub enterless : (i : Instr) (found elements : ℕ) → is_enter i ≡ false → enter_said (said code i m found elements) ≡ None
-  enterless i found elements e = by (said code i m found elements) (told_by code m i found elements)
+  pub enterless : TurnsTell → (i : Instr) (found elements : ℕ) → is_enter i ≡ false → enter_said (said code i m found elements) ≡ None
+  enterless tell i found elements e = by (said code i m found elements) (tell code i m found elements)
     where
       of : (a : Act) → tells a i ≡ true → entered a ≡ None
       of (Act.Enter c) w = absurd (let z : true ≡ false = sym w ∙ e in cc)
       of _ w = refl
 
-      by : (ev : Option SourceEvent) → IsToldBy i ev → enter_said ev ≡ None
+      by : (ev : Option SourceEvent) → IsSaidBy i m ev → enter_said ev ≡ None
       by None w = refl
-      by (Some d) w = of d.act w
+      by (Some d) w = of d.act w.1

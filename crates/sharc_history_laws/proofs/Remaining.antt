@@ -1,5 +1,5 @@
 -- What remains of checks in shadow words, access tables and stops: why a bit and the written bit stand.
-use Rattle.sharc_history_laws.proofs.{Imports.{◌≡◌, ℕ, suc, ◌+◌, ◌*◌, ◌/◌, ◌<◌, ◌≤◌, ◌⊎◌, inl, inr, Bool, true, false, not, ◌&&◌, Option, Some, None, is_some, if◌then◌else◌, refl, sym, ap, ◌∙◌, subst, ⊎_elim, arith, cases_eq, or_right, not_true as unset, slice_index, ◌==◌, Kind, Read, Write, Note, note_of, site_at, conflicts_in, ShadowLaws, epoch_of, is_write, is_written, stands, AddsAccess, Conflicts, WithdrawsWord, Code, Cell, Instr, Shape, ConflictAt, Conflict, Fits, granules, first_shadow, granule_at, granule_of, Machine, instr_at, place, wrote, stopped, with_own, TurnsComeOut, check_of, Turn, Global, MayTurn, after_turn, state_now, one_thread, bounds, Touch, Untouched, CheckOf, ClearOf, WithdrawOf, Passed, Labels, CellsAreThere, touch_at, State, StageStands, OnHold, object_of_cell, number_in, IsWellTyped, Fine, HasCell, Targets, Field, note_number, noted_by, World, same_is, ne_of, eq_of, and_left, or_split as or_cases, yes, and_right, and_from as and_both, not_from_false as not_no, not_yes}, TurnAt.{turn_at, turn_stands}, Doing.{Does, Plain, Passes, Refuses, IsCheckAt, IsNoCheck, site_still, site_new, note_from, does}, Shadows.{IsNext, WordBy, word_by, at_low}, Single.rests_hold, Stands.there, Withdrawing.{has_left, Noted, leaving}, Threaded.or_left, Carried.put_other}
+use Rattle.sharc_history_laws.proofs.{Imports.{◌≡◌, ℕ, suc, ◌+◌, ◌*◌, ◌/◌, ◌<◌, ◌≤◌, ◌⊎◌, inl, inr, Bool, true, false, not, ◌&&◌, Option, Some, None, is_some, if◌then◌else◌, refl, sym, ap, ◌∙◌, subst, ⊎_elim, arith, cases_eq, or_right, not_true as unset, slice_index, ◌==◌, Kind, Read, Write, Note, note_of, site_at, conflicts_in, ShadowLaws, epoch_of, is_write, is_written, stands, AddsAccess, Conflicts, WithdrawsWord, Code, Cell, Instr, Shape, ConflictAt, Conflict, Fits, granules, first_shadow, granule_at, granule_of, Machine, instr_at, place, wrote, stopped, with_own, ThreadLaws, check_of, Turn, Global, MayTurn, after_turn, state_now, one_thread, bounds, Touch, Untouched, CheckOf, ClearOf, WithdrawOf, Passed, Labels, CellsAreThere, touch_at, State, StageStands, OnHold, object_of_cell, number_in, IsWellTyped, Fine, HasCell, Targets, Field, note_number, noted_by, World, same_is, ne_of, eq_of, and_left, or_split as or_cases, yes, and_right, and_from as and_both, not_from_false as not_no, not_yes}, TurnAt.{turn_at, turn_stands}, Doing.{Does, Plain, Passes, Refuses, IsCheckAt, IsNoCheck, site_still, site_new, note_from, does}, Shadows.{IsNext, WordBy, word_by, at_low}, Single.rests_hold, Stands.there, Withdrawing.{has_left, Noted, leaving}, Threaded.or_left, Carried.put_other}
 use Rattle.sharc_heap.specs.ShadowWord.{is_of}
 use Rattle.sharc_code.specs.Machine as machines
 
@@ -83,7 +83,7 @@ became (CheckOf kind q ok) t p old new w h = ⊎_elim (λ (e : p ≡ q). Checked
 became (ClearOf q) t p old new w h = ⊎_elim (λ (e : p ≡ q). Cleared (h.0 e)) (λ ne. Same (h.1 ne) (λ e. cc)) (cases_eq p q)
 became (WithdrawOf q) t p old new w h = ⊎_elim (λ (e : p ≡ q). Withdrew (ap WithdrawOf (sym e)) (h.0 e)) (λ ne. Same (h.1 ne) (λ e. ne (let f : q ≡ p = cc in sym f))) (cases_eq p q)
 
-module _ (outs : TurnsComeOut) (laws : ShadowLaws) (cell_laws : CellsAreThere) (x : Targets) (code : Code) (s : Shape) (ls : Labels) (wt : IsWellTyped x code ls) (fits : Fits code s) (g : Global Machine) (world : World) (st : State x code s ls g world) (tr : Turn)
+module _ (turns : ThreadLaws) (laws : ShadowLaws) (cell_laws : CellsAreThere) (x : Targets) (code : Code) (s : Shape) (ls : Labels) (wt : IsWellTyped x code ls) (fits : Fits code s) (g : Global Machine) (world : World) (st : State x code s ls g world) (tr : Turn)
     (may : MayTurn bounds (one_thread code s) g tr) (fresh : (g.threads tr.thread).own.stop ≡ None) (h : Remains s g) where
   open turn_at code s g tr use {t, m, i, g', m'}
 
@@ -100,12 +100,12 @@ module _ (outs : TurnsComeOut) (laws : ShadowLaws) (cell_laws : CellsAreThere) (
   DoesIt = Does s (λ q. slice_index g.words (first_shadow + q)) m i touch m'
 
   did : DoesIt
-  did = does outs code s g tr may fresh
+  did = does turns.outcomes code s g tr may fresh
 
   open turn_stands wt st tr may use {on, number}
 
   word : (p : ℕ) → p < granules s → Became touch tr.thread p (old_at p) (new_at p) (wrote (g.threads tr.thread) p (old_at p))
-  word p lt = became touch t p (old_at p) (new_at p) (wrote m p (old_at p)) (word_by laws x code s ls wt fits g world st tr may p lt)
+  word p lt = became touch t p (old_at p) (new_at p) (wrote m p (old_at p)) (word_by turns.aims laws x code s ls wt fits g world st tr may p lt)
 
   -- the other threads are as they were
   others : (k : ℕ) → (k ≡ tr.thread → ⊥) → g'.threads k ≡ g.threads k
@@ -250,8 +250,8 @@ module _ (outs : TurnsComeOut) (laws : ShadowLaws) (cell_laws : CellsAreThere) (
       by (Same e ne) = again
         where
           again : AddsAccess (old_at p) (new_at p) tr.thread kind
-          again = (subst (λ touch. WordBy touch t p (old_at p) (new_at p) (wrote m p (old_at p))) q (word_by laws x code s ls wt fits g world st tr may p lt)).0 refl
-      by (Cleared a) = (subst (λ touch. WordBy touch t p (old_at p) (new_at p) (wrote m p (old_at p))) q (word_by laws x code s ls wt fits g world st tr may p lt)).0 refl
+          again = (subst (λ touch. WordBy touch t p (old_at p) (new_at p) (wrote m p (old_at p))) q (word_by turns.aims laws x code s ls wt fits g world st tr may p lt)).0 refl
+      by (Cleared a) = (subst (λ touch. WordBy touch t p (old_at p) (new_at p) (wrote m p (old_at p))) q (word_by turns.aims laws x code s ls wt fits g world st tr may p lt)).0 refl
 
   stop_bit : (k p : ℕ) (d : ConflictAt) → StoppedAt g' k p d → stands (new_at p) k ≡ true
   stop_bit k p d e =
@@ -391,7 +391,7 @@ module _ (outs : TurnsComeOut) (laws : ShadowLaws) (cell_laws : CellsAreThere) (
         | true ↦ λ _ z. absurd (omega (arith, z))
         | false ↦ λ gone z.
             let n = number_some (note_of m'.own.table p Write) (epoch_of (new_at p)) z in
-            let before : has_left m p ≡ false = unset (has_left m p) (λ q. yes (sym ((leaving outs x code s ls g world st tr may).still p q) ∙ gone)) in
+            let before : has_left m p ≡ false = unset (has_left m p) (λ q. yes (sym ((leaving turns.outcomes x code s ls g world st tr may).still p q) ∙ gone)) in
             ⊎_elim
             (λ (was : note_of m.own.table p Write ≡ Some n.0). ap (λ b. if b then 0 else note_number (note_of m.own.table p Write)) before ∙ ap note_number was ∙ ap suc (n.2 ∙ same))
             (λ now. absurd (never now.0))
@@ -428,7 +428,7 @@ module _ (outs : TurnsComeOut) (laws : ShadowLaws) (cell_laws : CellsAreThere) (
           let own : is_of (wrote m p (old_at p)) (epoch_of (old_at p)) ≡ false = unset (is_of (wrote m p (old_at p)) (epoch_of (old_at p))) (λ z.
           let site = wrote_site m p (old_at p) z in
           let n = some_site (note_of m.own.table p Write) (epoch_of (old_at p)) site.0 site.1 in
-          let here : has_left m p ≡ false = (leaving outs x code s ls g world st tr may).once p q in
+          let here : has_left m p ≡ false = (leaving turns.outcomes x code s ls g world st tr may).once p q in
           none t (ap (λ b. if b then 0 else note_number (note_of m.own.table p Write)) here ∙ ap note_number n.1 ∙ ap suc n.2)) in
           a.written ∙ and_both (is_written (old_at p)) (not (is_of (wrote m p (old_at p)) (epoch_of (old_at p)))) e (not_no (is_of (wrote m p (old_at p)) (epoch_of (old_at p))) own)
 
@@ -493,7 +493,7 @@ module _ (outs : TurnsComeOut) (laws : ShadowLaws) (cell_laws : CellsAreThere) (
       (stop_was k p d e)
 
   -- ---- who has withdrawn
-  noted_of : (p : ℕ) → Reason g tr.thread p → Noted outs x code s ls g world st tr may p
+  noted_of : (p : ℕ) → Reason g tr.thread p → Noted turns.outcomes x code s ls g world st tr may p
   noted_of p (ByNote kind z e) = (kind, epoch_of (old_at p), z, e)
   noted_of p (ByStop d e) = absurd (let f : None ≡ Some (Conflict d) = sym fresh ∙ e.is in cc)
 
@@ -509,8 +509,8 @@ module _ (outs : TurnsComeOut) (laws : ShadowLaws) (cell_laws : CellsAreThere) (
       mine : stands (new_at p) tr.thread ≡ true → Became touch tr.thread p (old_at p) (new_at p) (wrote (g.threads tr.thread) p (old_at p)) → has_left m' p ≡ false
       mine e (Same q ne) =
           let was : stands (old_at p) t ≡ true = ap (λ v. stands v t) (sym q) ∙ e in
-          (leaving outs x code s ls g world st tr may).others p ne (noted_of p (h.reason t p lt was)) (h.left t p lt was)
-      mine e (Checked kind ok q a) = (leaving outs x code s ls g world st tr may).checks kind p ok q p
+          (leaving turns.outcomes x code s ls g world st tr may).others p ne (noted_of p (h.reason t p lt was)) (h.left t p lt was)
+      mine e (Checked kind ok q a) = (leaving turns.outcomes x code s ls g world st tr may).checks kind p ok q p
       mine e (Cleared a) = absurd (yes (sym e ∙ a.threads t))
       mine e (Withdrew q a) = absurd (yes (sym (same_is t) ∙ not_yes (t == t) (and_right (stands (old_at p) t) (not (t == t)) (sym (a.threads t) ∙ e))))
 
@@ -520,7 +520,7 @@ module _ (outs : TurnsComeOut) (laws : ShadowLaws) (cell_laws : CellsAreThere) (
   -- ---- what the turn leaves
   -- the epoch of a granule that it does not clear
   pub epoch_still : (p : ℕ) → p < granules s → (touch_at code s g tr ≡ ClearOf p → ⊥) → epoch_of (word_at (after_turn bounds (one_thread code s) g tr) p) ≡ epoch_of (word_at g p)
-  epoch_still p lt ne = by (touch_at code s g tr) refl (word_by laws x code s ls wt fits g world st tr may p lt)
+  epoch_still p lt ne = by (touch_at code s g tr) refl (word_by turns.aims laws x code s ls wt fits g world st tr may p lt)
     where
       by : (y : Touch) → touch_at code s g tr ≡ y → WordBy y tr.thread p (old_at p) (new_at p) (wrote (g.threads tr.thread) p (old_at p)) → epoch_of (new_at p) ≡ epoch_of (old_at p)
       by Untouched q w = ap epoch_of w
@@ -532,7 +532,7 @@ module _ (outs : TurnsComeOut) (laws : ShadowLaws) (cell_laws : CellsAreThere) (
   epoch_grows p lt = grows p lt
 
   pub epoch_cleared : (p : ℕ) → p < granules s → touch_at code s g tr ≡ ClearOf p → epoch_of (word_at (after_turn bounds (one_thread code s) g tr) p) ≡ suc (epoch_of (word_at g p))
-  epoch_cleared p lt q = ((subst (λ y. WordBy y t p (old_at p) (new_at p) (wrote m p (old_at p))) q (word_by laws x code s ls wt fits g world st tr may p lt)).0 refl).epoch
+  epoch_cleared p lt q = ((subst (λ y. WordBy y t p (old_at p) (new_at p) (wrote m p (old_at p))) q (word_by turns.aims laws x code s ls wt fits g world st tr may p lt)).0 refl).epoch
 
   -- a bit of a thread stays in the epoch, or the thread has withdrawn from there
   pub bit_or_left : (k p : ℕ) → p < granules s → epoch_of (word_at (after_turn bounds (one_thread code s) g tr) p) ≡ epoch_of (word_at g p) → stands (word_at g p) k ≡ true
@@ -544,12 +544,12 @@ module _ (outs : TurnsComeOut) (laws : ShadowLaws) (cell_laws : CellsAreThere) (
       by (Checked kind ok q a) = inl (a.threads k ∙ or_left (stands (old_at p) k) (k == t) e)
       by (Cleared a) = absurd (let b = a.epoch in omega (arith, b, same))
       by (Withdrew q a) = ⊎_elim
-          (λ (mine : k ≡ t). inr (ap (λ k. has_left (g'.threads k) p) mine ∙ (leaving outs x code s ls g world st tr may).then_ p q))
+          (λ (mine : k ≡ t). inr (ap (λ k. has_left (g'.threads k) p) mine ∙ (leaving turns.outcomes x code s ls g world st tr may).then_ p q))
           (λ (ne : k ≡ t → ⊥). inl (a.threads k ∙ and_both (stands (old_at p) k) (not (k == t)) e (not_no (k == t) (ne_of k t ne))))
           (cases_eq k t)
 
   pub left_still : (k p : ℕ) → has_left (g.threads k) p ≡ true → has_left ((after_turn bounds (one_thread code s) g tr).threads k) p ≡ true
-  left_still k p e = each (λ k (y : Machine). has_left (g.threads k) p ≡ true → has_left y p ≡ true) (λ e. (leaving outs x code s ls g world st tr may).still p e) (λ k _ e. e) k e
+  left_still k p e = each (λ k (y : Machine). has_left (g.threads k) p ≡ true → has_left y p ≡ true) (λ e. (leaving turns.outcomes x code s ls g world st tr may).still p e) (λ k _ e. e) k e
 
   -- no write check passes where the bit of another thread stands
   pub refused : (k p : ℕ) → (k ≡ tr.thread → ⊥) → stands (word_at g p) k ≡ true → touch_at code s g tr ≡ CheckOf Write p true → ⊥

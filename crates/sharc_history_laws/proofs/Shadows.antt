@@ -1,5 +1,5 @@
 -- What a turn does to the shadow word of each granule.
-use Rattle.sharc_history_laws.proofs.{Imports.{◌≡◌, ℕ, zero, suc, ◌+◌, ◌*◌, ◌/◌, ◌%◌, ◌^◌, ◌<◌, ◌≤◌, ◌≢◌, Bool, true, false, length, List, [], ◌∷◌, Option, Some, None, if◌then◌else◌, min, refl, sym, ap, ◌∙◌, subst, ⊎_elim, arith, eqb-true, cases_eq, cases_lt, nat_tests, get_or-set_other, slice_index, nat_lt, bit_or, ◌==◌, Contains, THREADS, WordEvent, WordOp, WordStep, word_after, words_after_step, Kind, Read, Write, GranuleNotes, ListsNoted, is_noted, bits_of, cleared_of, withdrawn_of, ShadowLaws, epoch_of, is_written, stands, AddsAccess, WithdrawsWord, Code, Instr, Shape, Stage, Looks, Clears, Empties, Lowers, FreeLooks, FreeClears, Uncounts, Links, Withdraws, WithdrawsFrom, Leaves as Leaving, Fits, granules, first_cell, first_shadow, words_of, granule_at, granule_of, shadow_word, count_word, length_word, cell_word, Machine, StepTurn, Local, Asks, act, instr_at, step_of, ref, place, word, new, clear, free, layout_at, data_granules, data_granule, exit, row_of, without_own, withdrew, largest, wrote, turn, asked_by, may_go, Turn, Global, MayTurn, Answered, words_now, result_of, one_thread, bounds, Touch, Untouched, CheckOf, ClearOf, WithdrawOf, cleared_by, freed_by, withdrawn_by, touch_of, sum_to, Labels, touch_at, State, StageStands, OnHold, IsWellTyped, Targets, cells_of, World, set_here as set_at, same_or}, TurnAt.{turn_at, turn_stands}, Consists.found_is, Stands.{sole_ref, live_ref, target_ref}, Tables.step_leaves, Aims.{Aims, TurnAims, Reserved, typed_aims, is_touching}}
+use Rattle.sharc_history_laws.proofs.{Imports.{◌≡◌, ℕ, zero, suc, ◌+◌, ◌*◌, ◌/◌, ◌%◌, ◌^◌, ◌<◌, ◌≤◌, ◌≢◌, Bool, true, false, length, List, [], ◌∷◌, Option, Some, None, if◌then◌else◌, min, refl, sym, ap, ◌∙◌, subst, ⊎_elim, arith, eqb-true, cases_eq, cases_lt, nat_tests, get_or-set_other, slice_index, nat_lt, bit_or, ◌==◌, Contains, THREADS, WordEvent, WordOp, WordStep, word_after, words_after_step, Kind, Read, Write, GranuleNotes, ListsNoted, is_noted, bits_of, cleared_of, withdrawn_of, ShadowLaws, epoch_of, is_written, stands, AddsAccess, WithdrawsWord, Code, Instr, Shape, Stage, Looks, Clears, FreeClears, WithdrawsFrom, Fits, granules, first_cell, first_shadow, granule_at, granule_of, shadow_word, Machine, StepTurn, Local, Asks, act, instr_at, step_of, ref, place, word, new, clear, free, layout_at, data_granules, data_granule, exit, row_of, without_own, withdrew, largest, wrote, turn, asked_by, may_go, Turn, Global, MayTurn, Answered, words_now, result_of, one_thread, bounds, Touch, Untouched, CheckOf, ClearOf, WithdrawOf, cleared_by, freed_by, withdrawn_by, touch_of, sum_to, Labels, touch_at, State, StageStands, OnHold, IsWellTyped, Targets, cells_of, World, set_here as set_at, same_or, inl, inr, drawn_of, Names, Hands, Begins, Aim, TurnAim, TurnsAim, changes_shadow, yes}, TurnAt.{turn_at, turn_stands}, Consists.found_is, Stands.{sole_ref, live_ref, target_ref}, Tables.step_leaves, Aims.{drawn_is, typed_aim}}
 use Rattle.sharc_heap.specs.Accesses.{Accesses}
 use Rattle.sharc_code.specs.Runs as runs
 
@@ -27,19 +27,6 @@ abbrev SparesAll : Shape → StepTurn → Type 0
 SparesAll s (Local x) = Unit {0}
 SparesAll s (Asks step go) = Spares s step
 
-module _ (s : Shape) where
-  of_count : (h : ℕ) (op : WordOp) → Spares s (step_of (count_word s h) op)
-  of_count h op = Above (omega arith)
-
-  of_length : (h : ℕ) (op : WordOp) → Spares s (step_of (length_word s h) op)
-  of_length h op = Above (omega arith)
-
-  of_cell : (p : ℕ) (op : WordOp) → Spares s (step_of (cell_word s p) op)
-  of_cell p op = elim (nat_lt (first_cell s + p) (words_of s)) as (λ b. Spares s (step_of (if b then first_cell s + p else 0) op)) [
-    | true ↦ Above (omega arith)
-    | false ↦ Below (omega arith)
-  ]
-
 -- ---- rows of the access table
 blank_past : (notes : List GranuleNotes) (p : ℕ) → length notes ≤ p → is_noted notes p ≡ false
 blank_past [] p le = refl
@@ -65,7 +52,7 @@ pub in_cells : (n done : ℕ) → done < (min n largest + 1) / 2 → 2 * done < 
 in_cells n done lt = omega arith
 
 -- ---- one turn
-module _ (laws : ShadowLaws) (x : Targets) (code : Code) (s : Shape) (ls : Labels) (wt : IsWellTyped x code ls) (fits : Fits code s) (g : Global Machine) (world : World) (st : State x code s ls g world) (tr : Turn)
+module _ (aims : TurnsAim) (laws : ShadowLaws) (x : Targets) (code : Code) (s : Shape) (ls : Labels) (wt : IsWellTyped x code ls) (fits : Fits code s) (g : Global Machine) (world : World) (st : State x code s ls g world) (tr : Turn)
     (may : MayTurn bounds (one_thread code s) g tr) where
   open turn_at code s g tr use {t, m, i, found, m'}
 
@@ -199,28 +186,51 @@ module _ (laws : ShadowLaws) (x : Targets) (code : Code) (s : Shape) (ls : Label
   abbrev By : Touch → ℕ → Type 0
   By y p = WordBy y tr.thread p (old_word p) (new_word p) (wrote (g.threads tr.thread) p (old_word p))
 
+  -- ---- turns that change no shadow word
+  low_number : (g.threads tr.thread).own.number < THREADS
+  low_number = subst (λ n. n < THREADS) (sym number) few_threads
+
+  abbrev AtStage : Instr → Type 0
+  AtStage j = StageStands code s st.elements world st.heap g.words tr.thread (g.threads tr.thread) j (g.threads tr.thread).own.stage
+
+  low_drawn : (j : Instr) (stage : Stage) (n : ℕ) → AtStage j → (g.threads tr.thread).own.stage ≡ stage → drawn_of stage ≡ Some n → n < THREADS
+  low_drawn j stage n h at drawn = (drawn_is code s st.elements world st.heap g.words t m j stage n h at drawn).0
+
+  step_spares : (j : Instr) (step : WordStep) → AtStage j → changes_shadow j (g.threads tr.thread).own.stage ≡ false → Aim s j (g.threads tr.thread) step → Spares s step
+  step_spares j step h plain (Aim.Looks keeps) = Leaves keeps
+  step_spares j step h plain (Aim.Draws spawns at) = Below (omega (arith, at))
+  step_spares j step h plain (Aim.Prints prints at) = Below (omega (arith, at))
+  step_spares j step h plain (Aim.Names n is at) = let lt = low_drawn j (Names n) n h is refl in Below (omega (arith, at, lt))
+  step_spares j step h plain (Aim.Hands n is at) = let lt = low_drawn j (Hands n) n h is refl in Below (omega (arith, at, lt))
+  step_spares j step h plain (Aim.Begins n spawns is at op) = let lt = low_drawn j (Begins n) n h is refl in Below (omega (arith, at, lt))
+  step_spares j step h plain (Aim.Returns exits at op) = Below (omega (arith, at, low_number))
+  step_spares j step h plain (Aim.Ends exits at op) = Below (omega (arith, at, low_number))
+  step_spares j step h plain (Aim.Shadows granule changes at) = absurd (yes (sym changes ∙ plain))
+  step_spares j step h plain (Aim.Stores (inl low)) = Below (omega (arith, low))
+  step_spares j step h plain (Aim.Stores (inr high)) = Above high
+
+  by_turn : (j : Instr) (y : StepTurn) → AtStage j → changes_shadow j (g.threads tr.thread).own.stage ≡ false → TurnAim s j (g.threads tr.thread) y → SparesAll s y
+  by_turn j (Local y) h plain aim = tt
+  by_turn j (Asks step go) h plain aim = step_spares j step h plain aim
+
+  rest_spared : (j : Instr) → i ≡ j → changes_shadow j (g.threads tr.thread).own.stage ≡ false → (p : ℕ) → p < granules s → By Untouched p
+  rest_spared j is plain p lt =
+      let h = stage_here j is in
+      spared p lt (act code s j m) (ap (λ j. act code s j m) is) (by_turn j (act code s j m) h plain (typed_aim code s st.elements world st.heap g.words t m aims j h))
+
   to_clear : (r count : ℕ) → i ≡ Instr.Clear r count → (stage : Stage) → (g.threads tr.thread).own.stage ≡ stage → (p : ℕ) → p < granules s → By (cleared_by s (ref (g.threads tr.thread) r) stage) p
   to_clear r count is (Clears done all seen) at p lt =
       let k = clear_seen r count done all seen is at in
       by_swap (ref m r) done seen (λ found. Rattle.sharc_code.specs.Machine.looks m (done + 1) all) (ap (λ j. act code s j m) is ∙ ap (clear s m (ref m r) count) at) k.is k.low p
-  to_clear r count is (Looks done all) at p lt = spared p lt _ (ap (λ j. act code s j m) is ∙ ap (clear s m (ref m r) count) at) (Leaves (λ v. refl))
-  to_clear r count is stage at p lt = spared p lt _ (ap (λ j. act code s j m) is ∙ ap (clear s m (ref m r) count) at) (Leaves (λ v. refl))
+  to_clear r count is stage at p lt = rest_spared (Instr.Clear r count) is (ap (changes_shadow (Instr.Clear r count)) at) p lt
 
   to_free : (r layout site : ℕ) → i ≡ Instr.Free r layout site → (stage : Stage) → (g.threads tr.thread).own.stage ≡ stage → (p : ℕ) → p < granules s → By (freed_by s (ref (g.threads tr.thread) r) stage) p
   to_free r layout site is (FreeClears done all seen) at p lt =
       let k = free_seen r layout site done all seen is at in
       by_swap (ref m r) done seen (λ found. Rattle.sharc_code.specs.Machine.free_looks m (layout_at code layout) (done + 1) all) (ap (λ j. act code s j m) is ∙ ap (free code s m r (layout_at code layout)) at) k.is k.low p
-  to_free r layout site is (Empties j all) at p lt = spared p lt _ (ap (λ j. act code s j m) is ∙ ap (free code s m r (layout_at code layout)) at) (of_cell s _ _)
-  to_free r layout site is (Lowers j all was) at p lt = spared p lt _ (ap (λ j. act code s j m) is ∙ ap (free code s m r (layout_at code layout)) at) (of_count s was _)
-  to_free r layout site is (FreeLooks done all) at p lt = spared p lt _ (ap (λ j. act code s j m) is ∙ ap (free code s m r (layout_at code layout)) at) (Leaves (λ v. refl))
-  to_free r layout site is (Uncounts all) at p lt = spared p lt _ (ap (λ j. act code s j m) is ∙ ap (free code s m r (layout_at code layout)) at) (of_count s (ref m r) _)
-  to_free r layout site is (Links all) at p lt = spared p lt _ (ap (λ j. act code s j m) is ∙ ap (free code s m r (layout_at code layout)) at) (of_length s (ref m r) _)
-  to_free r layout site is stage at p lt = spared p lt _ (ap (λ j. act code s j m) is ∙ ap (free code s m r (layout_at code layout)) at) (Leaves (λ v. refl))
+  to_free r layout site is stage at p lt = rest_spared (Instr.Free r layout site) is (ap (changes_shadow (Instr.Free r layout site)) at) p lt
 
   -- ---- a withdrawal
-  low_number : (g.threads tr.thread).own.number < THREADS
-  low_number = subst (λ n. n < THREADS) (sym number) few_threads
-
   to_withdraw : (row seen : ℕ) → i ≡ Instr.Exit → (g.threads tr.thread).own.stage ≡ WithdrawsFrom row seen → (p : ℕ) → By (withdrawn_by s (g.threads tr.thread) (result_of tr.event) (WithdrawsFrom row seen)) p
   to_withdraw row seen is at p =
       let h = subst (StageStands code s st.elements world st.heap g.words t m Instr.Exit) at (stage_here Instr.Exit is) in
@@ -249,34 +259,16 @@ module _ (laws : ShadowLaws) (x : Targets) (code : Code) (s : Shape) (ls : Label
 
   to_exit : i ≡ Instr.Exit → (stage : Stage) → (g.threads tr.thread).own.stage ≡ stage → (p : ℕ) → p < granules s → By (withdrawn_by s (g.threads tr.thread) (result_of tr.event) stage) p
   to_exit is (WithdrawsFrom row seen) at p lt = to_withdraw row seen is at p
-  to_exit is (Withdraws row) at p lt = spared p lt _ (ap (λ j. act code s j m) is ∙ ap (exit s m) at) (Leaves (λ v. refl))
-  to_exit is Leaving at p lt = spared p lt _ (ap (λ j. act code s j m) is ∙ ap (exit s m) at) (Below (omega (arith, low_number)))
-  to_exit is stage at p lt = spared p lt _ (ap (λ j. act code s j m) is ∙ ap (exit s m) at) (Below (omega (arith, low_number)))
+  to_exit is stage at p lt = rest_spared Instr.Exit is (ap (changes_shadow Instr.Exit) at) p lt
 
-  -- ---- the others
-  step_spares : (j : Instr) (step : WordStep) → is_touching j ≡ false → Aims s (Reserved g.words) j step → Spares s step
-  step_spares j step other (Aims.Same keeps) = Leaves keeps
-  step_spares j step other (Aims.First lt unnumbered) = Below (omega arith)
-  step_spares j step other (Aims.OfState k low owns at) = let lt = (low other).0 in Below (omega (arith, at, lt))
-  step_spares j step other (Aims.OfFunction k d at) = let lt = d.0 in Below (omega (arith, at, lt))
-  step_spares j step other (Aims.OfArgument k d at) = let lt = d.0 in Below (omega (arith, at, lt))
-  step_spares j step other (Aims.OfShadow touches le) = absurd (touches other)
-  step_spares j step other (Aims.Above high) = Above high
-
-  by_turn : (j : Instr) (y : StepTurn) → is_touching j ≡ false → TurnAims s (Reserved g.words) j y → SparesAll s y
-  by_turn j (Local y) other h = tt
-  by_turn j (Asks step go) other h = step_spares j step other h
-
-  rest_spares : (j : Instr) → i ≡ j → is_touching j ≡ false → SparesAll s (act code s j (g.threads tr.thread))
-  rest_spares j is other = by_turn j (act code s j m) other (typed_aims code s st.elements world st.heap g.words t m j (stage_here j is))
-
+  -- ---- each instruction
   by_instr : (j : Instr) → i ≡ j → (p : ℕ) → p < granules s → By (touch_of s j (g.threads tr.thread) (result_of tr.event) m') p
   by_instr (Instr.ChkRead c site) is p lt = by_check Read (granule_of (place m c)) site (may_go m'.at.state) (ap (λ j. act code s j m) is) p
   by_instr (Instr.ChkWrite c site) is p lt = by_check Write (granule_of (place m c)) site (may_go m'.at.state) (ap (λ j. act code s j m) is) p
   by_instr (Instr.Clear r count) is p lt = to_clear r count is m.own.stage refl p lt
   by_instr (Instr.Free r layout site) is p lt = to_free r layout site is m.own.stage refl p lt
   by_instr Instr.Exit is p lt = to_exit is m.own.stage refl p lt
-  by_instr j is p lt = spared p lt (act code s j m) (ap (λ j. act code s j m) is) (rest_spares j is refl)
+  by_instr j is p lt = rest_spared j is refl p lt
 
   pub word_by : (p : ℕ) → p < granules s → WordBy (touch_at code s g tr) tr.thread p (slice_index g.words (first_shadow + p)) (slice_index (words_now g.words tr.event) (first_shadow + p)) (wrote (g.threads tr.thread) p (slice_index g.words (first_shadow + p)))
   word_by p lt = by_instr (instr_at code m.at.pc) refl p lt

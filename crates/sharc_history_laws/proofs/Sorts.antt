@@ -1,5 +1,6 @@
 -- What each turn is to the state words and to the number of the next thread, and what it makes of the number that a Spawn has drawn.
-use Rattle.sharc_history_laws.proofs.{Imports.{◌≡◌, ℕ, ◌+◌, ◌<◌, Bool, true, false, ◌==◌, nat_lt, length, is_some, Option, Some, None, if◌then◌else◌, refl, sym, ap, ◌∙◌, subst, arith, Decides-ltb, Trap, THREADS, WordOp, WordStep, word_after, Kind, note_of, site_at, noted, NewView, Code, Register, Instr, Shape, Stage, Makes, Names, Hands, Begins, Withdraws, WithdrawsFrom, Leaves, TurnOutcome, Stays, Rested, Begun, Refused, Gone, own_after, MayComeOut, ComesOut, TurnsComeOut, has_stage, is_exit, is_ended, state_word, next_thread_word, Machine, Own, StepTurn as Turn, act, with_note, spawn, withdraws, exit, at_stage, numbered, trapped, Local, Asks, step_of, instr_at, after, turn, asked_by, counted, IsStageOf, drawn_of, yes}, Aims.{Aims, TurnAims, aims, is_spawn}, Outcomes.unended}
+use Rattle.sharc_history_laws.proofs.{Imports.{◌≡◌, ℕ, ◌+◌, ◌<◌, Bool, true, false, ◌==◌, nat_lt, length, is_some, Option, Some, None, if◌then◌else◌, refl, sym, ap, ◌∙◌, arith, Decides-ltb, Trap, THREADS, WordOp, WordStep, word_after, Kind, note_of, site_at, noted, Code, Register, Instr, Shape, Stage, Makes, Names, Hands, Begins, Withdraws, WithdrawsFrom, Leaves, TurnOutcome, Stays, Rested, Begun, Refused, Gone, own_after, MayComeOut, ComesOut, has_stage, is_exit, is_ended, state_word, next_thread_word, Machine, Own, StepTurn as Turn, act, with_note, spawn, withdraws, exit, at_stage, numbered, trapped, Local, Asks, step_of, instr_at, after, turn, asked_by, counted, IsStageOf, drawn_of, yes, inl, inr, Aim, BuildsIn, TurnAim, ThreadLaws}, Outcomes.unended}
+use Rattle.sharc_code.specs.Aims.{is_spawn}
 
 -- ---- words that say something of a thread
 -- a step that leaves them
@@ -17,22 +18,26 @@ apart step unnumbered unstated = record { next = λ e. absurd (unnumbered e); st
 loads : (word : ℕ) → LeavesThem (step_of word WordOp.Load)
 loads word = record { next = λ e v. refl; states = λ t low e v. refl }
 
--- nothing is asked of a number that was drawn
-abbrev Any : ℕ → Type 0
-Any n = Unit {0}
+leaves : (s : Shape) (i : Instr) (m : Machine) (step : WordStep) → is_spawn i ≡ false → is_exit i ≡ false → Aim s i m step → LeavesThem step
+leaves s i m step single stays (Aim.Looks keeps) = record { next = λ e. keeps; states = λ t low e. keeps }
+leaves s i m step single stays (Aim.Draws spawns at) = absurd (yes (sym spawns ∙ single))
+leaves s i m step single stays (Aim.Prints prints at) = apart step (λ e. omega (arith, at, e)) (λ t low e. omega (arith, at, e))
+leaves s i m step single stays (Aim.Names n is at) = apart step (λ e. omega (arith, at, e)) (λ t low e. omega (arith, at, e))
+leaves s i m step single stays (Aim.Hands n is at) = apart step (λ e. omega (arith, at, e)) (λ t low e. omega (arith, at, e))
+leaves s i m step single stays (Aim.Begins n spawns is at op) = absurd (yes (sym spawns ∙ single))
+leaves s i m step single stays (Aim.Returns exits at op) = absurd (yes (sym exits ∙ stays))
+leaves s i m step single stays (Aim.Ends exits at op) = absurd (yes (sym exits ∙ stays))
+leaves s i m step single stays (Aim.Shadows granule changes at) = apart step (λ e. omega (arith, at, e)) (λ t low e. omega (arith, at, e, low))
+leaves s i m step single stays (Aim.Stores (inl small)) = apart step (λ e. omega (arith, small, e)) (λ t low e. omega (arith, small, e))
+leaves s i m step single stays (Aim.Stores (inr high)) = apart step (λ e. omega (arith, high, e)) (λ t low e. omega (arith, high, e, low))
 
-leaves : (s : Shape) (i : Instr) (step : WordStep) → is_spawn i ≡ false → is_exit i ≡ false → Aims s Any i step → LeavesThem step
-leaves s i step single stays (Aims.Same keeps) = record { next = λ e. keeps; states = λ t low e. keeps }
-leaves s i step single stays (Aims.First lt unnumbered) = apart step (unnumbered single) (λ t low e. omega (arith, lt, e))
-leaves s i step single stays (Aims.OfState k d owns at) = absurd (owns single stays)
-leaves s i step single stays (Aims.OfFunction k d at) = apart step (λ e. omega (arith, at, e)) (λ t low e. omega (arith, at, e))
-leaves s i step single stays (Aims.OfArgument k d at) = apart step (λ e. omega (arith, at, e)) (λ t low e. omega (arith, at, e))
-leaves s i step single stays (Aims.OfShadow touches le) = apart step (λ e. omega (arith, le, e)) (λ t low e. omega (arith, le, e, low))
-leaves s i step single stays (Aims.Above le) = apart step (λ e. omega (arith, le, e)) (λ t low e. omega (arith, le, e, low))
+away : (s : Shape) (i : Instr) (m : Machine) (t : Turn) → is_spawn i ≡ false → is_exit i ≡ false → TurnAim s i m t → Elsewhere (asked_by t)
+away s i m (Local x) single stays h = tt
+away s i m (Asks step go) single stays h = leaves s i m step single stays h
 
-away : (s : Shape) (i : Instr) (t : Turn) → is_spawn i ≡ false → is_exit i ≡ false → TurnAims s Any i t → Elsewhere (asked_by t)
-away s i (Local x) single stays h = tt
-away s i (Asks step go) single stays h = leaves s i step single stays h
+builds : (s : Shape) (stage : Stage) → IsStageOf s stage → BuildsIn s stage
+builds s (Makes view) is = is.0
+builds s _ is = tt
 
 -- ---- where a turn leads
 -- no number was drawn, and the thread has not ended
@@ -82,7 +87,7 @@ module _ (s : Shape) (i : Instr) (found : ℕ) (m x : Machine) (out : ComesOut s
   plain : is_exit i ≡ false → Plain m x
   plain other = record { drawn = λ n e. undrawn n out.outcome out.may (ap (λ (o : Own). drawn_of o.stage) (sym out.own) ∙ e); on = unended s i found m x out other }
 
-module _ (outs : TurnsComeOut) (code : Code) (s : Shape) (m : Machine) where
+module _ (turns : ThreadLaws) (code : Code) (s : Shape) (m : Machine) where
   -- a Spawn
   at_numbered : (site n : ℕ) → drawn_of m.own.stage ≡ None → Drew n (numbered m site n)
   at_numbered site n undrawn = by (nat_lt n THREADS) refl
@@ -114,8 +119,8 @@ module _ (outs : TurnsComeOut) (code : Code) (s : Shape) (m : Machine) where
   -- the others
   at_other : (i : Instr) → is_spawn i ≡ false → is_exit i ≡ false → IsStageOf s m.own.stage → Sort m (act code s i m)
   at_other i single stays is = Ordinary
-      (away s i (act code s i m) single stays (aims code s Any m (λ v e. (subst (IsStageOf s) e is).0) (λ n e. tt) i))
-      (λ found. plain s i found m (after (act code s i m) found) (outs code s i m found) single stays)
+      (away s i m (act code s i m) single stays (turns.aims code s i m (builds s m.own.stage is)))
+      (λ found. plain s i found m (after (act code s i m) found) (turns.outcomes code s i m found) single stays)
 
   at_instr : (i : Instr) → IsStageOf s m.own.stage → Sort m (act code s i m)
   at_instr (Instr.Spawn r function from site) is = at_spawn r function from site m.own.stage refl

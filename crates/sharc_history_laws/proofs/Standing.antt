@@ -1,5 +1,5 @@
 -- What the state words say wherever a run is.
-use Rattle.sharc_history_laws.proofs.{Imports.{◌≡◌, ℕ, ◌+◌, ◌%◌, ◌^◌, ◌<◌, ◌≤◌, ◌⊎◌, Bool, true, false, ◌||◌, ◌&&◌, List, [], ◌∷◌, Option, Some, None, refl, sym, ap, ◌∙◌, subst, ⊎_elim, inl, inr, arith, cases_eq, or_right, or_left, nat_tests, get_or-set_other, get_or-map-range_with_len, nat_eq, nat_lt, nat_le, ◌==◌, slice_index, THREADS, WordStep, WordEvent, word_after, words_after_step, WordOp, Code, Shape, TurnState, Tries, Stopped, Ended, state_word, next_thread_word, words_of, Machine, StepTurn as Act, step_of as step_at, opening_words, opens_with, opening_cell, first_global, turn, after, asked_by, may_go, counted, Turn, Global, IsRun, put, words_now, result_of, is_started, opening_of, Answered, RunLaws, StandingLaws, TurnsComeOut, is_ended, drawn_of, one_thread, bounds, place_after, state_of, or_split, not_ended, set_here, set_same, not_true}, Places.{sum_to, sum_few, sum_grows, sum_more}, Sorts.{LeavesThem, Elsewhere, Plain, Drew, Spawned, Sort, Ordinary, Draws, Starts, Returns, Ends, sorted}, Tells.{Tells, StateChange, Same, Begins, Own, Changes, tells_still}, Carried.{put_same, put_other}}
+use Rattle.sharc_history_laws.proofs.{Imports.{◌≡◌, ℕ, ◌+◌, ◌%◌, ◌^◌, ◌<◌, ◌≤◌, ◌⊎◌, Bool, true, false, ◌||◌, ◌&&◌, List, [], ◌∷◌, Option, Some, None, refl, sym, ap, ◌∙◌, subst, ⊎_elim, inl, inr, arith, cases_eq, or_right, or_left, nat_tests, get_or-set_other, get_or-map-range_with_len, nat_eq, nat_lt, nat_le, ◌==◌, slice_index, THREADS, WordStep, WordEvent, word_after, words_after_step, WordOp, Code, Shape, TurnState, Tries, Stopped, Ended, state_word, next_thread_word, words_of, Machine, StepTurn as Act, step_of as step_at, opening_words, opens_with, opening_cell, first_global, turn, after, asked_by, may_go, counted, Turn, Global, IsRun, put, words_now, result_of, is_started, opening_of, Answered, RunLaws, StandingLaws, is_ended, drawn_of, one_thread, bounds, place_after, state_of, or_split, not_ended, set_here, set_same, not_true}, Places.{sum_to, sum_few, sum_grows, sum_more}, Sorts.{LeavesThem, Elsewhere, Plain, Drew, Spawned, Sort, Ordinary, Draws, Starts, Returns, Ends, sorted}, Tells.{Tells, StateChange, Same, Begins, Own, Changes, tells_still}, Carried.{put_same, put_other}}
 use Rattle.sharc_code.specs.{declared.state.TurnState.TheVariants.Runs, Runs.step_of}
 
 -- ---- words
@@ -296,7 +296,7 @@ module _ (code : Code) (s : Shape) where
   }
 
 -- ---- runs
-module _ (laws : RunLaws) (standing : StandingLaws) (outs : TurnsComeOut) (code : Code) (s : Shape) where
+module _ (laws : RunLaws) (standing : StandingLaws) (code : Code) (s : Shape) where
   pub holds : (turns : List Turn) → IsRun bounds (one_thread code s) (from code s) turns → Holds (place_after code s turns)
   holds [] run = opens code s
   holds (one ∷ earlier) run =
@@ -305,5 +305,5 @@ module _ (laws : RunLaws) (standing : StandingLaws) (outs : TurnsComeOut) (code 
       let may = run.1 in
       let old = holds earlier run.0 in
       let d = still g k one.event old (turn code s (g.threads k)) may.started may.next.runs may.next.asks may.answered (standing.numbers code s earlier k)
-      (laws.few bounds code s (from code s) earlier (λ u. omega arith) run.0) (sorted outs code s (g.threads k) (standing.stages code s earlier k)) in
+      (laws.few bounds code s (from code s) earlier (λ u. omega arith) run.0) (sorted laws.turns code s (g.threads k) (standing.stages code s earlier k)) in
       record { tells = d.0; few = d.1; first = or_right (is_started bounds (words_now g.words one.event) 0) (g.started 0) old.first }

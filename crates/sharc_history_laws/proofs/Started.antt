@@ -136,7 +136,7 @@ module _ (cell_laws : CellsAreThere) (pointers : PointersAreThere) (rights : Acc
     module _ (t : ℕ) (lt : t < THREADS) (k : Unheard L t) (was : slice_index (place_after code s earlier).words (state_word t) ≡ 1) where
       stays : (slice_index g'.words (function_word t) ≡ slice_index (place_after code s earlier).words (function_word t)) × (slice_index g'.words (argument_word t) ≡ slice_index (place_after code s earlier).words (argument_word t))
       stays = given_stays t g.words one.event (turn code s m) may.next.asks
-          (spares_given s t lt code h.state.elements h.world h.state.heap g.words u m (λ z. let e : 1 ≡ 0 = sym was ∙ z in omega arith) ((h.state.threads u).runs on.0 on.1).stage)
+          (spares_given laws.turns.aims s t lt code h.state.elements h.world h.state.heap g.words u m (λ z. let e : 1 ≡ 0 = sym was ∙ z in omega arith) ((h.state.threads u).runs on.0 on.1).stage)
 
       -- its argument, if it is a reference, has the elements that it had
       same_argument : (p : Parameter) → (function_of code (function_given (place_after code s earlier) t)).parameter ≡ p

@@ -61,7 +61,7 @@ module _ (laws : TheLaws) (x : Targets) (code : Code) (s : Shape) (ls : Labels) 
     ungiven (Instr.Give r site) is e =
         let same : ref m r ≡ o = cc in
         let low : 2 * k < st.cells (ref m r) = subst (λ o. 2 * k < st.cells o) (sym same) inside in
-        let none = given_cleared laws.run.turns.outcomes laws.shadow laws.state laws.cells laws.pointers x code s ls typed.wt typed.fits g world st one run.1 fresh w.remains w.cleared r site is k low u in
+        let none = given_cleared laws.run.turns laws.shadow laws.state laws.cells laws.pointers x code s ls typed.wt typed.fits g world st one run.1 fresh w.remains w.cleared r site is k low u in
         yes (sym bit ∙ ap (λ o. stands (word_at g (o + 1 + k)) u) (sym same) ∙ none)
     ungiven _ is e = let f : None ≡ Some o = e in cc
 
@@ -69,7 +69,7 @@ module _ (laws : TheLaws) (x : Targets) (code : Code) (s : Shape) (ls : Labels) 
     unfreed_at r layout site is (Uncounts all) at e =
         let same : ref m r ≡ o = cc in
         let low : 2 * k < st.cells (ref m r) = subst (λ o. 2 * k < st.cells o) (sym same) inside in
-        let none = freed_cleared laws.run.turns.outcomes laws.shadow laws.state laws.cells laws.pointers x code s ls typed.wt typed.fits g world st one run.1 fresh w.remains w.cleared r layout site all is at k low u in
+        let none = freed_cleared laws.run.turns laws.shadow laws.state laws.cells laws.pointers x code s ls typed.wt typed.fits g world st one run.1 fresh w.remains w.cleared r layout site all is at k low u in
         yes (sym bit ∙ ap (λ o. stands (word_at g (o + 1 + k)) u) (sym same) ∙ none)
     unfreed_at r layout site is _ at e = let f : None ≡ Some o = e in cc
 
@@ -108,7 +108,7 @@ module _ (laws : TheLaws) (x : Targets) (code : Code) (s : Shape) (ls : Labels) 
       pub stays_on : o + 1 + k < granules s → is_gone e.act ≡ true → e.thread ≢ u
       stays_on lt gone mine =
           let q : gone_said (said code i m (result_of one.event) elements) ≡ true = ap gone_said told ∙ gone in
-          let exit : is_exit i ≡ true = not_false (is_exit i) (λ no. yes (sym q ∙ not_gone code m i (result_of one.event) elements no)) in
+          let exit : is_exit i ≡ true = not_false (is_exit i) (λ no. yes (sym q ∙ not_gone code m laws.run.turns.tells i (result_of one.event) elements no)) in
           let at : m.own.stage ≡ Leaving = leaving i refl exit q in
           let left : has_left m (o + 1 + k) ≡ true = ap (λ y. has_withdrawn y m.own.table.order (is_ended m.at.state) (o + 1 + k)) at in
           let thread : u ≡ t = sym mine ∙ of.thread ∙ (st.threads t).has.number in

@@ -1,5 +1,5 @@
 -- Which turns tell that a thread was spawned, or is gone, and which tell a change of a cell.
-use Rattle.sharc_history_laws.proofs.{Imports.{◌≡◌, ℕ, Bool, true, false, Option, Some, None, refl, ◌||◌, sym, ◌∙◌, Act, CellAt, SourceEvent, Taken, Code, Cell, Instr, Machine, said, is_exit, is_spawn, is_gone, cell_changed}, Acts.access_said, Told.{is_threading, tells, IsToldBy, told_by}}
+use Rattle.sharc_history_laws.proofs.{Imports.{◌≡◌, ℕ, Bool, true, false, Option, Some, None, refl, ◌||◌, sym, ◌∙◌, Act, CellAt, SourceEvent, Taken, Code, Cell, Instr, Machine, said, is_exit, is_spawn, is_gone, cell_changed, is_threading, tells, IsSaidBy, TurnsTell}, Acts.access_said}
 
 -- ---- threads
 abbrev pub about_threads : Act → Bool
@@ -15,8 +15,8 @@ neither Act.Gone e = absurd (let z : true ≡ false = e in cc)
 neither _ e = (refl, refl)
 
 module _ (code : Code) (m : Machine) where
-  pub no_thread : (i : Instr) (found elements : ℕ) → is_threading i ≡ false → threads_said (said code i m found elements) ≡ false
-  no_thread i found elements e = by (said code i m found elements) (told_by code m i found elements)
+  pub no_thread : TurnsTell → (i : Instr) (found elements : ℕ) → is_threading i ≡ false → threads_said (said code i m found elements) ≡ false
+  no_thread tell i found elements e = by (said code i m found elements) (tell code i m found elements)
     where
       no_exit : (i : Instr) → is_threading i ≡ false → is_exit i ≡ false
       no_exit Instr.Exit e = absurd (let z : true ≡ false = e in cc)
@@ -27,9 +27,9 @@ module _ (code : Code) (m : Machine) where
       of Act.Gone w = absurd (let z : true ≡ false = sym w ∙ no_exit i e in cc)
       of _ w = refl
 
-      by : (ev : Option SourceEvent) → IsToldBy i ev → threads_said ev ≡ false
+      by : (ev : Option SourceEvent) → IsSaidBy i m ev → threads_said ev ≡ false
       by None w = refl
-      by (Some d) w = of d.act w
+      by (Some d) w = of d.act w.1
 
 -- ---- cells
 -- an event that is no access changes no cell but those of an object that it makes

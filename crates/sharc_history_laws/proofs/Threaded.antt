@@ -1,5 +1,5 @@
 -- Who was started, and who has ended, by the events of a run.
-use Rattle.sharc_history_laws.proofs.{Imports.{◌≡◌, ℕ, ℤ, pos, ◌+◌, ◌<◌, Bool, true, false, ◌||◌, ◌&&◌, length, List, [], ◌∷◌, reverse, Option, Some, None, if◌then◌else◌, refl, sym, ap, ◌∙◌, subst, ⊎_elim, arith, eqb-true, cases_eq, or_right, nat_tests, slice_index, nat_lt, nat_eq, ◌==◌, list_any, THREADS, WordOp, Act, SourceEvent, Code, Instr, Register, Shape, Stage, Begins, Withdraws, WithdrawsFrom, Leaves, RunLaws, Fits, state_word, Machine, act, exit, spawn, withdraws, withdrew, at_stage, is_exit, turn, after, asked_by, Turn, Global, MayTurn, after_turn, put, state_now, words_now, is_started, said, in_exit, in_spawn, one_thread, bounds, place_after, History, spawns, is_spawn, is_natural, is_gone, was_spawned, went, Targets, Labels, IsWellTyped, is_ended, IsSmall, StageStands, Keeps, CellsAreThere, PointersAreThere, AccessesAreAllowed, same_is, or_split as or_cases, yes}, TurnAt.{turn_at, told_at}, Consists.{Consists, after_set}, Outcomes.unended, Holding.any_push, Lists.{Newest, reverse_push}, Rules.{pushed, number_is}, Telling.{threads_said, neither, no_thread}, Told.is_threading, Carried.{put_same, put_other}}
+use Rattle.sharc_history_laws.proofs.{Imports.{◌≡◌, ℕ, ℤ, pos, ◌+◌, ◌<◌, Bool, true, false, ◌||◌, ◌&&◌, length, List, [], ◌∷◌, reverse, Option, Some, None, if◌then◌else◌, refl, sym, ap, ◌∙◌, subst, ⊎_elim, arith, eqb-true, cases_eq, or_right, nat_tests, slice_index, nat_lt, nat_eq, ◌==◌, list_any, THREADS, WordOp, Act, SourceEvent, Code, Instr, Register, Shape, Stage, Begins, Withdraws, WithdrawsFrom, Leaves, RunLaws, Fits, state_word, Machine, act, exit, spawn, withdraws, withdrew, at_stage, is_exit, turn, after, asked_by, Turn, Global, MayTurn, after_turn, put, state_now, words_now, is_started, said, in_exit, in_spawn, one_thread, bounds, place_after, History, spawns, is_spawn, is_natural, is_gone, was_spawned, went, Targets, Labels, IsWellTyped, is_ended, IsSmall, StageStands, Keeps, CellsAreThere, PointersAreThere, AccessesAreAllowed, same_is, or_split as or_cases, yes, is_threading}, TurnAt.{turn_at, told_at}, Consists.{Consists, after_set}, Outcomes.unended, Holding.any_push, Lists.{Newest, reverse_push}, Rules.{pushed, number_is}, Telling.{threads_said, neither, no_thread}, Carried.{put_same, put_other}}
 
 pub or_left : (a b : Bool) → a ≡ true → (a || b) ≡ true
 or_left true b e = refl
@@ -106,7 +106,7 @@ module _ (cell_laws : CellsAreThere) (pointers : PointersAreThere) (rights : Acc
 
       others : is_threading i ≡ false → ⊥
       others never =
-          let a : threads_said (Some e) ≡ false = ap threads_said (sym said_is) ∙ no_thread code m i found elements never in
+          let a : threads_said (Some e) ≡ false = ap threads_said (sym said_is) ∙ no_thread code m laws.turns.tells i found elements never in
           yes (sym parts.0 ∙ (neither e.act a).0)
 
       by : (j : Instr) → i ≡ j → (after_turn bounds (one_thread code s) (place_after code s earlier) one).started n ≡ true

@@ -1,5 +1,5 @@
 -- Whoever waits by the events stands where it waits, and the words of conditions have the bits of those who wait.
-use Rattle.sharc_history_laws.proofs.{Imports.{◌≡◌, ℕ, pos, zero, suc, ◌+◌, ◌^◌, ◌<◌, ◌≢◌, ◌⊎◌, inl, inr, Bool, true, false, not, ◌||◌, ◌&&◌, cond, List, ◌∷◌, Option, Some, None, if◌then◌else◌, refl, sym, ap, ◌∙◌, subst, ⊎_elim, arith, eqb-true, cases_eq, not_true, get_or-set_other, slice_index, ◌==◌, THREADS, WordOp, word_after, Act, CellAt, Object, SourceEvent, WaitersLaws, waits_in, lowest_of, without_lowest, Code, Cell, Instr, Shape, Stage, Links, Wakes, word_of, RunLaws, Fits, Machine, instr_at, int, ref, word, act, signal, is_of_null, step_of, goes, fails, turn, after, asked_by, Turn, Global, MayTurn, after_turn, put, state_now, words_now, said, cell_at, nobody, in_signal, event_at, one_thread, bounds, place_after, is_cell, same_cell, takes_away, Targets, Field, Content, Waiters, field_in, Gate, Closed, Labels, IsWellTyped, Accesses, HasCell, IsNotSole, In, RegisterOf, ObjectState, World, IsSmall, StageStands, EntryStands, OnHold, object_of_cell, number_in, view_of, refs_at, types_at, Keeps, CellsAreThere, PointersAreThere, AccessesAreAllowed, StateStands, WaitsFollow, same_is, ne_of as other_is, yes}, TurnAt.{turn_at, told_at, turn_stands}, Acts.{freed_at, thread_said}, Born.born, Consists.{Consists, consists_then, objects_then, after_set, found_is, headed, live_not_built, header_built}, Contents.{IsCellOf, content_of, word_of_cell, one_cell}, Emptying.{IsFreeing, IsEmptied, emptied_then, begins_freeing}, Holding.cell_eq, Lists.Newest, Locking.cell_refl, ModesKept.word_spared, OneMode.{place_of, numbers_now}, Queued.{waits_by, waits_behind, waiter_behind, other_event, no_condition, condition_elsewhere, no_enter, woken_leaves, enterless}, Told.{is_condition, is_enter}, Outcomes.wakes_nobody, Rules.{pushed, about_now, decide, freed_gone}, Shared.number_of, Single.{single, rests_hold}, Sparing.{holds_waiters, spares_cell}, Touches.{is_mutex, waited_cell, written_cell}, Stands.{register_is, live_slot, some_base, there, top, reads_ref}, Tables.header_of, Unemptied.not_emptied, Valued.cell_named, Values.{Kept, kept}, Logged.{above as positive}, Carried.{put_same, put_other}}
+use Rattle.sharc_history_laws.proofs.{Imports.{◌≡◌, ℕ, pos, zero, suc, ◌+◌, ◌^◌, ◌<◌, ◌≢◌, ◌⊎◌, inl, inr, Bool, true, false, not, ◌||◌, ◌&&◌, cond, List, ◌∷◌, Option, Some, None, if◌then◌else◌, refl, sym, ap, ◌∙◌, subst, ⊎_elim, arith, eqb-true, cases_eq, not_true, get_or-set_other, slice_index, ◌==◌, THREADS, WordOp, word_after, Act, CellAt, Object, SourceEvent, WaitersLaws, waits_in, lowest_of, without_lowest, Code, Cell, Instr, Shape, Stage, Links, Wakes, word_of, RunLaws, Fits, Machine, instr_at, int, ref, word, act, signal, is_of_null, step_of, goes, fails, turn, after, asked_by, Turn, Global, MayTurn, after_turn, put, state_now, words_now, said, cell_at, nobody, in_signal, event_at, one_thread, bounds, place_after, is_cell, same_cell, takes_away, Targets, Field, Content, Waiters, field_in, Gate, Closed, Labels, IsWellTyped, Accesses, HasCell, IsNotSole, In, RegisterOf, ObjectState, World, IsSmall, StageStands, EntryStands, OnHold, object_of_cell, number_in, view_of, refs_at, types_at, Keeps, CellsAreThere, PointersAreThere, AccessesAreAllowed, StateStands, WaitsFollow, same_is, ne_of as other_is, yes, is_condition, is_enter}, TurnAt.{turn_at, told_at, turn_stands}, Acts.{freed_at, thread_said}, Born.born, Consists.{Consists, consists_then, objects_then, after_set, found_is, headed, live_not_built, header_built}, Contents.{IsCellOf, content_of, word_of_cell, one_cell}, Emptying.{IsFreeing, IsEmptied, emptied_then, begins_freeing}, Holding.cell_eq, Lists.Newest, Locking.cell_refl, ModesKept.word_spared, OneMode.{place_of, numbers_now}, Queued.{waits_by, waits_behind, waiter_behind, other_event, no_condition, condition_elsewhere, no_enter, woken_leaves, enterless}, Outcomes.wakes_nobody, Rules.{pushed, about_now, decide, freed_gone}, Shared.number_of, Single.{single, rests_hold}, Sparing.{holds_waiters, spares_cell}, Touches.{is_mutex, waited_cell, written_cell}, Stands.{register_is, live_slot, some_base, there, top, reads_ref}, Tables.header_of, Unemptied.not_emptied, Valued.cell_named, Values.{Kept, kept}, Logged.{above as positive}, Carried.{put_same, put_other}}
 use Rattle.sharc_meaning.specs.Store.{entered}
 use Rattle.sharc_history_laws.proofs.Placed as Placed
 
@@ -208,7 +208,7 @@ module _ (bits : WaitersLaws) (cell_laws : CellsAreThere) (pointers : PointersAr
           let nobody : (u : ℕ) → waits_by L c u ≡ false = λ u. not_true (waits_by L c u) (λ w.
           let live = waited_live c u (λ z. nz (sym same ∙ z)) (stand c u w) in
           live_not_built x code s ls wt fits g h.world h.state n t nz (subst (λ n. (h.world.obj n).live ≡ true) same live) (headed laws keeps cell_laws pointers x code s ls wt fits few one earlier h may n nz made)) in
-          inl (λ u. waiter_behind event L c u ∙ other_event event c u (waits_by L c u) (ap (is_cell c) (no_condition code m i found elements (made_plain n made))) ∙ nobody u
+          inl (λ u. waiter_behind event L c u ∙ other_event event c u (waits_by L c u) (ap (is_cell c) (no_condition code m laws.turns.tells i found elements (made_plain n made))) ∙ nobody u
           ∙ sym (ap (λ v. waits_in v u) word_zero ∙ bits.empty u))
 
       -- ---- one that was there
@@ -402,7 +402,7 @@ module _ (bits : WaitersLaws) (cell_laws : CellsAreThere) (pointers : PointersAr
             plain (Instr.CondSignal d site) is e = absurd (let z : Some d ≡ None = e in cc)
             plain (Instr.CondBroadcast d site) is e = absurd (let z : Some d ≡ None = e in cc)
             plain (Instr.CondWait d site) is e = λ u was. ap (λ j. waits_behind (said code j m found elements) c u was) is ∙ woken_leaves (said code (Instr.CondWait d site) m found elements) (cell_at code m d) c u was (of_wait d site (waits_in found m.own.number))
-            plain _ is e = λ u was. other_event event c u was (ap (is_cell c) (no_condition code m i found elements (ap is_condition is)))
+            plain _ is e = λ u was. other_event event c u was (ap (is_cell c) (no_condition code m laws.turns.tells i found elements (ap is_condition is)))
 
             some_eq : (d k : Cell) → Some d ≡ Some k → d ≡ k
             some_eq d k e = cc
@@ -447,7 +447,7 @@ module _ (bits : WaitersLaws) (cell_laws : CellsAreThere) (pointers : PointersAr
 
       -- the thread itself
       was_waiting : is_enter i ≡ false → waits_by (pushed event L) c one.thread ≡ true → Stand ((place_after code s earlier).threads one.thread)
-      was_waiting plain w = stand c t (no_enter event c t (waits_by L c t) (enterless code m i found elements plain) (sym (waiter_behind event L c t) ∙ w))
+      was_waiting plain w = stand c t (no_enter event c t (waits_by L c t) (enterless code m laws.turns.tells i found elements plain) (sym (waiter_behind event L c t) ∙ w))
 
       stays_not : is_waiting i ≡ false → Stand ((place_after code s earlier).threads one.thread) → ⊥
       stays_not plain w = yes (sym (at_waiting code m.at.pc w.cell w.at) ∙ plain)
@@ -491,7 +491,7 @@ module _ (bits : WaitersLaws) (cell_laws : CellsAreThere) (pointers : PointersAr
           bit =
               let f = found_at k WordOp.Load (ap (λ j. asked_by (act code s j m)) is) in
               ap (λ n. waits_in found n) number ∙ ap (λ n. waits_in n t) f ∙ sym (bit_here state_law k (here_at_wait k site is) t) ∙ ap (λ d. waits_by L d t) (sym here_is)
-              ∙ no_enter event c t (waits_by L c t) (enterless code m i found elements (ap is_enter is)) (sym (waiter_behind event L c t) ∙ w)
+              ∙ no_enter event c t (waits_by L c t) (enterless code m laws.turns.tells i found elements (ap is_enter is)) (sym (waiter_behind event L c t) ∙ w)
 
           split : (b : Bool) → waits_in found ((place_after code s earlier).threads one.thread).own.number ≡ b → Stand (if b then fails ((place_after code s earlier).threads one.thread) else goes ((place_after code s earlier).threads one.thread))
           split true e = record { cell = st.cell; is = st.is; based = st.based; hold = st.hold; at = st.at }

@@ -19,14 +19,14 @@ module _ (laws : TheLaws) (x : Targets) (code : Code) (s : Shape) (ls : Labels) 
     fresh = fresh_of laws x code s ls typed one earlier run w.halting
 
     pub up : (p : ℕ) → p < granules s → epoch_of (word_at (place_after code s earlier) p) ≤ epoch_of (word_at (place_after code s (one ∷ earlier)) p)
-    up p lt = epoch_grows laws.run.turns.outcomes laws.shadow laws.cells x code s ls typed.wt typed.fits (g_of earlier) w.consists.world w.consists.state one run.1 fresh w.remains p lt
+    up p lt = epoch_grows laws.run.turns laws.shadow laws.cells x code s ls typed.wt typed.fits (g_of earlier) w.consists.world w.consists.state one run.1 fresh w.remains p lt
 
     pub bit_then : (u p : ℕ) → p < granules s → epoch_of (word_at (place_after code s (one ∷ earlier)) p) ≡ epoch_of (word_at (place_after code s earlier) p) → stands (word_at (place_after code s earlier) p) u ≡ true
         → (stands (word_at (place_after code s (one ∷ earlier)) p) u ≡ true) ⊎ (has_left ((place_after code s (one ∷ earlier)).threads u) p ≡ true)
-    bit_then u p lt same e = bit_or_left laws.run.turns.outcomes laws.shadow laws.cells x code s ls typed.wt typed.fits (g_of earlier) w.consists.world w.consists.state one run.1 fresh w.remains u p lt same e
+    bit_then u p lt same e = bit_or_left laws.run.turns laws.shadow laws.cells x code s ls typed.wt typed.fits (g_of earlier) w.consists.world w.consists.state one run.1 fresh w.remains u p lt same e
 
     pub left_then : (u p : ℕ) → has_left ((place_after code s earlier).threads u) p ≡ true → has_left ((place_after code s (one ∷ earlier)).threads u) p ≡ true
-    left_then u p e = left_still laws.run.turns.outcomes laws.shadow laws.cells x code s ls typed.wt typed.fits (g_of earlier) w.consists.world w.consists.state one run.1 fresh w.remains u p e
+    left_then u p e = left_still laws.run.turns laws.shadow laws.cells x code s ls typed.wt typed.fits (g_of earlier) w.consists.world w.consists.state one run.1 fresh w.remains u p e
 
   module _ (base : List Turn) (o k u : ℕ) (lt : o + 1 + k < granules s) where
     abbrev epoch_at : List Turn → ℕ

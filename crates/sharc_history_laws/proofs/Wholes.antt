@@ -74,8 +74,8 @@ module _ (laws : TheLaws) (x : Targets) (code : Code) (s : Shape) (ls : Labels) 
         let h = w.consists in
         record {
           consists = next_consists;
-          remains = remains_then laws.run.turns.outcomes laws.shadow laws.cells x code s ls typed.wt typed.fits g h.world h.state one run.1 fresh w.remains;
-          cleared = cleared_then laws.run.turns.outcomes laws.shadow laws.state laws.cells laws.pointers x code s ls typed.wt typed.fits g h.world h.state one run.1 fresh w.remains w.cleared;
+          remains = remains_then laws.run.turns laws.shadow laws.cells x code s ls typed.wt typed.fits g h.world h.state one run.1 fresh w.remains;
+          cleared = cleared_then laws.run.turns laws.shadow laws.state laws.cells laws.pointers x code s ls typed.wt typed.fits g h.world h.state one run.1 fresh w.remains w.cleared;
           halting = halting (one ∷ earlier) run;
         }
 

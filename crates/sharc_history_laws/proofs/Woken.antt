@@ -1,5 +1,5 @@
 -- The source events of each run of typed code that tell who waits may come after those before them.
-use Rattle.sharc_history_laws.proofs.{Imports.{◌≡◌, ℕ, pos, zero, suc, ◌+◌, ◌<◌, ◌^◌, ◌⊎◌, inl, inr, Bool, true, false, List, [], ◌∷◌, reverse, Option, Some, None, if◌then◌else◌, refl, sym, ap, ◌∙◌, subst, ⊎_elim, eqb-true, cases_eq, not_true, slice_index, ◌==◌, WordOp, Act, Object, CellAt, SourceEvent, Resolution, WaitersLaws, waits_in, lowest_of, without_lowest, Code, Cell, Instr, Shape, Stage, Wakes, RunLaws, Fits, Machine, word, act, signal, step_of, opening_words, turn, after, asked_by, Turn, Global, IsRun, MayTurn, after_turn, put, state_now, result_of, opening_of, said, cell_at, nobody, in_signal, event_at, one_thread, bounds, place_after, said_now, table_of, Stands, History, MayCome, is_waiter, Targets, Labels, IsWellTyped, IsSmall, Keeps, CodeBegins, CellsAreThere, PointersAreThere, AccessesAreAllowed, StateStands, history_of, BeginsWith, is_about_waiters, WaitsFollow, yes}, TurnAt.{turn_at, told_at}, Consists.{Consists, consists_then, at_first, found_is}, Contents.{IsCellOf, content_of, word_of_cell}, Emptying.IsEmptied, Outcomes.{wakes_still, wakes_nobody}, Lists.{Newest, Split, Last, Earlier, split}, Opening.{waiters_first, only_globals}, Queued.{waits_by, waiter_is, condition_of, condition_said, no_condition}, Told.is_condition, Rules.{pushed, newest, newest_now}, Shared.number_of, Sparing.holds_waiters, Touches.waited_cell, Waiting.{WaitersStand, WordsTell, Here, here, here_at_wait, bit_here, words_then, stands_then}, Logged.{above as positive}, Carried.{put_same, put_other}}
+use Rattle.sharc_history_laws.proofs.{Imports.{◌≡◌, ℕ, pos, zero, suc, ◌+◌, ◌<◌, ◌^◌, ◌⊎◌, inl, inr, Bool, true, false, List, [], ◌∷◌, reverse, Option, Some, None, if◌then◌else◌, refl, sym, ap, ◌∙◌, subst, ⊎_elim, eqb-true, cases_eq, not_true, slice_index, ◌==◌, WordOp, Act, Object, CellAt, SourceEvent, Resolution, WaitersLaws, waits_in, lowest_of, without_lowest, Code, Cell, Instr, Shape, Stage, Wakes, RunLaws, Fits, Machine, word, act, signal, step_of, opening_words, turn, after, asked_by, Turn, Global, IsRun, MayTurn, after_turn, put, state_now, result_of, opening_of, said, cell_at, nobody, in_signal, event_at, one_thread, bounds, place_after, said_now, table_of, Stands, History, MayCome, is_waiter, Targets, Labels, IsWellTyped, IsSmall, Keeps, CodeBegins, CellsAreThere, PointersAreThere, AccessesAreAllowed, StateStands, history_of, BeginsWith, is_about_waiters, WaitsFollow, yes, is_condition}, TurnAt.{turn_at, told_at}, Consists.{Consists, consists_then, at_first, found_is}, Contents.{IsCellOf, content_of, word_of_cell}, Emptying.IsEmptied, Outcomes.{wakes_still, wakes_nobody}, Lists.{Newest, Split, Last, Earlier, split}, Opening.{waiters_first, only_globals}, Queued.{waits_by, waiter_is, condition_of, condition_said, no_condition}, Rules.{pushed, newest, newest_now}, Shared.number_of, Sparing.holds_waiters, Touches.waited_cell, Waiting.{WaitersStand, WordsTell, Here, here, here_at_wait, bit_here, words_then, stands_then}, Logged.{above as positive}, Carried.{put_same, put_other}}
 
 -- ---- one turn
 module _ (bits : WaitersLaws) (state_law : StateStands) (cell_laws : CellsAreThere) (pointers : PointersAreThere) (rights : AccessesAreAllowed) (laws : RunLaws) (keeps : Keeps) (x : Targets) (code : Code) (s : Shape) (ls : Labels) (wt : IsWellTyped x code ls) (fits : Fits code s) (few : IsSmall code s)
@@ -83,7 +83,7 @@ module _ (bits : WaitersLaws) (state_law : StateStands) (cell_laws : CellsAreThe
       by (Instr.CondSignal k site) is = subst (λ j. Legal (said code j m found elements)) (sym is) (signal_legal k site is m.own.stage refl)
       by (Instr.CondWait k site) is = subst (λ j. Legal (said code j m found elements)) (sym is)
           (woken_legal k (here_at_wait bits cell_laws pointers rights laws keeps x code s ls wt fits few one earlier h may k site is) WordOp.Load (ap (λ j. asked_by (act code s j m)) is) site (waits_in found m.own.number) refl)
-      by _ is = plain_legal event (no_condition code m i found elements (ap is_condition is))
+      by _ is = plain_legal event (no_condition code m laws.turns.tells i found elements (ap is_condition is))
 
 -- ---- runs
 abbrev pub EachIsTold : Resolution → History → Type 0

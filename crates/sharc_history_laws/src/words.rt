@@ -2,7 +2,7 @@
 
 ghost use Rattle.sharc_history_laws.specs.Told.{StatesAreTold, SpawnsAreNew};
 
-use sharc_code::{run_laws, standing_laws, thread_laws};
+use sharc_code::{run_laws, standing_laws};
 
 /// At each place of each checked run the state word of a thread is 3 exactly where the thread has ended, 0 exactly
 /// where it was not started, and never above 3; and a thread that a Spawn is about to start was not started.
@@ -12,5 +12,4 @@ pub fn states_law()
 {
     run_laws();
     standing_laws();
-    thread_laws();
 }

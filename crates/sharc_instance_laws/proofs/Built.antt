@@ -129,6 +129,6 @@ module _ (alloc : Global) (rules : RulesAreMet) (laws : RunLaws) where
         site = r.site;
         count = r.count;
         stop = r.stop;
-        nothing = λ ls finds. alone numbers sharing_code (shape_of 0) sharing ls finds.earlier
+        nothing = λ ls finds. alone laws.turns.tells numbers sharing_code (shape_of 0) sharing ls finds.earlier
             (earlier_owns (finds.later ++ finds.test ∷ []) finds.earlier (subst (λ (l : List Turn). Owns 0 l) (finds.parts ∙ sym (append_assoc finds.later (finds.test ∷ []) finds.earlier)) e.own)) _;
       }

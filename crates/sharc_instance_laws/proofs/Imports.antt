@@ -1,5 +1,5 @@
 -- What the proofs cite of std, of other crates and of this crate's definitions, passed on from one place.
-pub use Rattle.std.proofs.{Common.{Bool, List, None, Some, [], ap, append-nil, append_assoc, arith, drop, false, le_refl, length, length-append, map, not, refl, replicate, reverse, subst, suc, sym, take, true, zero, ℕ, ℤ, ⊎_elim, ◌&&◌, ◌*◌, ◌++◌, ◌+◌, ◌-◌, ◌<◌, ◌==◌, ◌^◌, ◌||◌, ◌∙◌, ◌∷◌, ◌≡◌, ◌≤◌}, lemmas.Bool.{and_from as both, cases_eq}}
+pub use Rattle.std.proofs.{Common.{Bool, List, None, Some, [], ap, append-nil, append_assoc, arith, drop, false, le_refl, length, length-append, map, not, refl, replicate, subst, suc, sym, take, true, zero, ℕ, ℤ, ⊎_elim, ◌&&◌, ◌*◌, ◌++◌, ◌+◌, ◌-◌, ◌<◌, ◌==◌, ◌^◌, ◌||◌, ◌∙◌, ◌∷◌, ◌≡◌, ◌≤◌}, lemmas.Bool.{and_from as both, cases_eq}}
 pub use Rattle.std.specs.{List.list_any, Prelude.{Ok, Option, Vec, codes, filter, if◌then◌else◌, nat_le, nat_lt, pos, slice_get, slice_index, slice_index_or}}
 pub use denote.RawPtr.{null_ptr}
 pub use lib.Count.{count_trailing_zeros}
@@ -15,10 +15,8 @@ pub use Rattle.sharc_mode.specs.{Flows.{IsLeastAssignment, IsPlaceFor, IsReasonF
 pub use Rattle.sharc_check.specs.RuleLaws.{RulesAreMet}
 pub use Rattle.sharc_meaning.specs.{Events.{Access, Stands, access_by, events_of, held_mutexes, holds_mutex, is_of, locked_by, same_cell, unless_unlocked}, Meaning.asks, Obeys.{AlwaysObeys, IsThere, Obeys, Until, until_gone}, References.Begun, Runs.{Follows, SourceRun, answers_of, by}}
 pub use Rattle.sharc_word.specs.declared.step.WordStep.{WordStep}
-pub use Rattle.sharc_heap.specs.{State.NewView, declared.stage.NewStage.NewStage, declared.stage.NewStage.TheVariants.Length}
 unfoldable pub use Rattle.sharc_heap.specs.Block.{block_of, doubled}
-pub use Rattle.sharc_locks.specs.Waiters.{waits_in}
-pub use Rattle.sharc_code.specs.{Laws.RunLaws, Layout.Fits, Machine.{Machine, instr_at, ref}, Opening.opening_words, Path.{may_go, most_ints, most_refs}, Ranges.{GlobalsFit, NumbersFit, end_place, first_place}, Runs.{Answered, Global, IsOf, IsRun, MayTurn, OneThread, Owns, Said, Turn, after_turn, at, is_started, made_event, made_now, opening_of, paired, result_of, step_of, told_by, turn_by, with_told}, Says.{in_exit, in_free, in_new, in_signal, in_spawn, in_start, new_event, nobody, said, take_local}, StandingLaws.NumbersAreOwn, Waits.waits_now, Whole.{Erase, IsStuck, bounds, one_thread, place_after}, declared.code.Code.Code, declared.code.Function.{Function as Row}, declared.code.GlobalCells.GlobalCells, declared.code.Text.Text, declared.instr.Cell.Cell, declared.instr.Instr.Instr, declared.instr.Instr.TheVariants.{CondBroadcast, CondEnter, CondSignal, CondWait, Exchange, Exit, Free, Give, GlobalBounds, Join, Load, LoadRef, Lock, New, Print, Spawn, Start, Store, TakeCell, TakeLocal, Unlock}, declared.instr.Register.Register, declared.shape.Shape.Shape, declared.state.Stage.Stage, declared.state.Stage.TheVariants.{Begins, Enters, Makes, Uncounts, Wakes, Withdraws, WithdrawsFrom}, declared.state.Stop.Stop, declared.state.Stop.TheVariants.NotSole, declared.state.TheConstants.FRAMES}
+pub use Rattle.sharc_code.specs.{Laws.RunLaws, Layout.Fits, Machine.{Machine, instr_at}, Opening.opening_words, Path.{may_go, most_ints, most_refs}, Ranges.{GlobalsFit, NumbersFit, end_place, first_place}, Runs.{Answered, Global, IsOf, IsRun, MayTurn, OneThread, Owns, Said, Turn, after_turn, at, is_started, made_event, made_now, opening_of, paired, result_of, step_of, told_by, turn_by, with_told}, Says.{IsSaidBy, TurnsTell}, StandingLaws.NumbersAreOwn, Waits.waits_now, Whole.{Erase, IsStuck, bounds, one_thread, place_after}, declared.code.Code.Code, declared.code.Function.{Function as Row}, declared.code.GlobalCells.GlobalCells, declared.code.Text.Text, declared.instr.Instr.Instr, declared.shape.Shape.Shape, declared.state.Stop.Stop, declared.state.Stop.TheVariants.NotSole, declared.state.TheConstants.FRAMES}
 pub use Rattle.sharc_flat.specs.{Flattened.{flattened, function_code, rows_of}, Flattens.{Flattens, IsMainOf, names_of}, Laid.{AreLaid, AreNamed, AreTextsIn, lies_at, lock_text_of, spot_in, with_texts, words_of}, Laws.FitsMade, Machine.Flat, Made.flat_of, Tables.{all_first_words, all_granules, globals_of, layouts_of, pointers_of}, declared.flat.Flat.{Flat as FlatCode}, declared.op.Op.Op, declared.op.Spot.Spot}
 pub use Rattle.sharc_guard.specs.{Guard.guarded, Known.dropped, declared.guarded.Guarded.Guarded}
 pub use Rattle.sharc_compile.specs.{Generated.generated, Made.IsCodeOf, OfRuns.told_in}

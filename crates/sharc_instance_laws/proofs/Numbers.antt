@@ -1,5 +1,5 @@
 -- The numbers of a code fit: by tests of its tables that compute.
-use Rattle.sharc_instance_laws.proofs.{Imports.{◌≡◌, ℕ, zero, suc, ◌+◌, ◌*◌, ◌^◌, ◌<◌, Bool, true, List, [], ◌∷◌, length, None, Some, refl, subst, Option, nat_lt, nat_le, slice_get, slice_index, slice_index_or, Code, Instr, GlobalBounds, Spawn, Exit, FRAMES, most_ints, most_refs, GlobalsFit, NumbersFit, Op, Flat, FitsMade, left, right, below, within}, Testing.all_pass}
+use Rattle.sharc_instance_laws.proofs.{Imports.{◌≡◌, ℕ, zero, suc, ◌+◌, ◌*◌, ◌^◌, ◌<◌, Bool, true, List, [], ◌∷◌, length, None, Some, refl, subst, Option, nat_lt, nat_le, slice_get, slice_index, slice_index_or, Code, Instr, FRAMES, most_ints, most_refs, GlobalsFit, NumbersFit, Op, Flat, FitsMade, left, right, below, within}, Testing.all_pass}
 
 -- ---- each of a list, by its place
 module _ {X : Type 0} (test : X → Bool) where
@@ -24,11 +24,11 @@ words_small (w ∷ words) e (suc j) = words_small words (right (nat_lt w (2 ^ 64
 
 -- ---- instructions
 abbrev pub spawns_known : ℕ → Instr → Bool
-spawns_known n (Spawn to function from site) = nat_lt function n
+spawns_known n (Instr.Spawn to function from site) = nat_lt function n
 spawns_known n _ = true
 
 abbrev pub has_small_index : Instr → Bool
-has_small_index (GlobalBounds to elements cells field site) = nat_lt (elements * cells + field) (2 ^ 63)
+has_small_index (Instr.GlobalBounds to elements cells field site) = nat_lt (elements * cells + field) (2 ^ 63)
 has_small_index _ = true
 
 abbrev pub has_small_line : Op → Bool
@@ -54,9 +54,9 @@ numbers_fit code t globals = record {
   globals = globals;
   words = words_small code.initial.items t.words;
   spawned = λ pc to function site from is. below function (length code.functions.items)
-      (subst (λ (i : Instr). spawns_known (length code.functions.items) i ≡ true) is (at_each (spawns_known (length code.functions.items)) code.instrs.items Exit t.spawned refl pc));
+      (subst (λ (i : Instr). spawns_known (length code.functions.items) i ≡ true) is (at_each (spawns_known (length code.functions.items)) code.instrs.items Instr.Exit t.spawned refl pc));
   indexes = λ pc to elements cells field site is. below (elements * cells + field) (2 ^ 63)
-      (subst (λ (i : Instr). has_small_index i ≡ true) is (at_each has_small_index code.instrs.items Exit t.indexes refl pc));
+      (subst (λ (i : Instr). has_small_index i ≡ true) is (at_each has_small_index code.instrs.items Instr.Exit t.indexes refl pc));
 }
 
 -- ---- flat code

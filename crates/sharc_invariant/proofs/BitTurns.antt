@@ -1,5 +1,5 @@
 -- The bits of shadow words behind each turn, and at each place of a run.
-use Rattle.sharc_invariant.proofs.{Imports.{◌≡◌, ℕ, suc, ◌+◌, ◌*◌, ◌<◌, ◌⊎◌, ◌||◌, Bool, true, false, cond, List, [], ◌∷◌, refl, sym, ap, ◌∙◌, subst, inl, inr, ⊎_elim, arith, cases_eq, cases_Bool, ltb-true, lt-ltb, true_from_ne_false, length, take, slice_index, slice_set, nat_lt, nat_eq, is_some, bit_or, ◌==◌, if◌then◌else◌, THREADS, Load, Swap, Or, Cas, WordStep, MayFollow, word_after, Kind, Read, Write, note_of, site_at, epoch_of, is_of, is_written, stands, WithdrawsWord, AddsAccess, bits_of, cleared_of, withdrawn_of, conflicts_in, noted, ShadowLaws, Code, Layout, Instr, ChkRead, ChkWrite, Clear, Free, New, Spawn, Exit, Register, Shape, Stage, Rests, Looks, Clears, Makes, FreeLooks, FreeClears, Uncounts, Names, Hands, Begins, Withdraws, WithdrawsFrom, Leaves, StateOf as PlaceState, Ended, Stop, Conflict, Fits, granules, granule_at, granule_of, first_shadow, first_cell, shadow_word, state_word, Machine, Own, StepTurn, Local, Asks, step_of, act, instr_at, ref, at_stage, ends, stopped, with_own, with_note, wrote, checked, check, clear, looks, free, free_looks, layout_at, data_granule, data_granules, rests, exit, withdraws, withdrew, row_of, without_own, TurnsComeOut, may_go, turn, asked_by, after as after_step, Turn, Global, put, at, MayTurn, IsRun, Answered, after_turn, result_of, one_thread, bounds, put_same, put_other, put_all, Touch, Untouched, CheckOf, ClearOf, WithdrawOf, Marks, no_marks, with_check, without_thread, cleared_by, freed_by, withdrawn_by, touch_of, marks_by, marks_now, marks_after, BitsStand, AllBitsStand, Passed, Targets, Labels, IsWellTyped, World, Heap, shadow_at, is_ended, is_withdrawing, has_withdrawn, note_number, noted_by, first_place, made_turn, State, IsSmall, StageStands, OnNew, OnSpawn, OnExit, RunsFromTheBeginning, RunsBits, ne_eq, eq_refl}, TurnAt.{turn_at, turn_stands}, Stores.index_put, Turns.{local_turn, asks_turn, some_step}, Checks.{noted_numbers, same_kind, other_put}, Withdrawn.{is_row, one_more, row_low, first_row, noted_withdraws, wrote_now}, Opened.shadow_zero, Marked.{MarkedAt, at_same, at_clear, at_read, at_write, at_withdraw}, Touched.{IsFit, fit_calm, IsPlain, KeepsNotes, LeavesWords, leaves, keeps_notes}}
+use Rattle.sharc_invariant.proofs.{Imports.{◌≡◌, ℕ, suc, ◌+◌, ◌*◌, ◌<◌, ◌⊎◌, ◌||◌, Bool, true, false, cond, List, [], ◌∷◌, refl, sym, ap, ◌∙◌, subst, inl, inr, ⊎_elim, arith, cases_eq, cases_Bool, ltb-true, lt-ltb, true_from_ne_false, length, take, slice_index, slice_set, nat_lt, nat_eq, is_some, bit_or, ◌==◌, if◌then◌else◌, THREADS, Load, Swap, Or, Cas, WordStep, MayFollow, word_after, Kind, Read, Write, note_of, site_at, epoch_of, is_of, is_written, stands, WithdrawsWord, AddsAccess, bits_of, cleared_of, withdrawn_of, conflicts_in, noted, ShadowLaws, Code, Layout, Instr, Register, Shape, Stage, Rests, Looks, Clears, Makes, FreeLooks, FreeClears, Uncounts, Names, Hands, Begins, Withdraws, WithdrawsFrom, Leaves, StateOf as PlaceState, Ended, Stop, Conflict, Fits, granules, granule_at, granule_of, first_shadow, first_cell, shadow_word, state_word, Machine, Own, StepTurn, Local, Asks, step_of, act, instr_at, ref, at_stage, ends, stopped, with_own, with_note, wrote, checked, check, clear, looks, free, free_looks, layout_at, data_granule, data_granules, rests, exit, withdraws, withdrew, row_of, without_own, TurnsComeOut, may_go, turn, asked_by, after as after_step, Turn, Global, put, at, MayTurn, IsRun, Answered, after_turn, result_of, one_thread, bounds, put_same, put_other, put_all, Touch, Untouched, CheckOf, ClearOf, WithdrawOf, Marks, no_marks, with_check, without_thread, cleared_by, freed_by, withdrawn_by, touch_of, marks_by, marks_now, marks_after, BitsStand, AllBitsStand, Passed, Targets, Labels, IsWellTyped, World, Heap, shadow_at, is_ended, is_withdrawing, has_withdrawn, note_number, noted_by, first_place, made_turn, State, IsSmall, StageStands, OnNew, OnSpawn, OnExit, RunsFromTheBeginning, RunsBits, ne_eq, eq_refl}, TurnAt.{turn_at, turn_stands}, Stores.index_put, Turns.{local_turn, asks_turn, some_step}, Checks.{noted_numbers, same_kind, other_put}, Withdrawn.{is_row, one_more, row_low, first_row, noted_withdraws, wrote_now}, Opened.shadow_zero, Marked.{MarkedAt, at_same, at_clear, at_read, at_write, at_withdraw}, Touched.{IsFit, fit_calm, IsPlain, KeepsNotes, LeavesWords, leaves, keeps_notes}}
 use Rattle.sharc_code.specs.Machine.{place}
 
 -- ---- numbers
@@ -51,19 +51,19 @@ record Noted (m m' : Machine) (kind : Kind) (p e : ℕ) : Type 0 where
 
 -- ---- stages
 from_new : (P : ℕ → ℕ → ℕ → Type 0) (Q : Type 0) (i : Instr) → ((r count cells : ℕ) → P r count cells → Q) → OnNew P i → Q
-from_new P Q (New r count cells site) f h = f r count cells h
+from_new P Q (Instr.New r count cells site) f h = f r count cells h
 from_new P Q _ f h = absurd h
 
 from_spawn : (P : ℕ → Register → Type 0) (Q : Type 0) (i : Instr) → ((f : ℕ) (from : Register) → P f from → Q) → OnSpawn P i → Q
-from_spawn P Q (Spawn r f from site) k h = k f from h
+from_spawn P Q (Instr.Spawn r f from site) k h = k f from h
 from_spawn P Q _ k h = absurd h
 
 abbrev pub IsNoExit : Instr → Type 0
-IsNoExit Exit = ⊥
+IsNoExit Instr.Exit = ⊥
 IsNoExit _ = Unit {0}
 
 no_exit : (P : Type 0) (i : Instr) → IsNoExit i → OnExit P i → ⊥
-no_exit P Exit n h = n
+no_exit P Instr.Exit n h = n
 no_exit P _ n h = h
 
 fit_of : (code : Code) (s : Shape) (elements : ℕ → ℕ) (w : World) (heap : Heap) (words : List ℕ) (t : ℕ) (m : Machine) (i : Instr) (y : Stage) → IsNoExit i → StageStands code s elements w heap words t m i y → IsFit s y
@@ -193,18 +193,18 @@ module _ (x : Targets) (code : Code) (s : Shape) (ls : Labels) (laws : ShadowLaw
   freed_notes : (l : Layout) (done elements : ℕ) → KeepsNotes (g.threads tr.thread) (free_looks (g.threads tr.thread) l done elements)
   freed_notes l done elements = elim (nat_lt done (data_granules elements l.cells)) as (λ b. KeepsNotes m (if b then at_stage m (FreeLooks done elements) else at_stage m (Uncounts elements))) [ true ↦ staged_notes (FreeLooks done elements) refl | false ↦ staged_notes (Uncounts elements) refl ]
 
-  clear_kept : TurnsComeOut → (r cells : ℕ) → instr_at code (g.threads tr.thread).at.pc ≡ Clear r cells → (y : Stage) → (g.threads tr.thread).own.stage ≡ y → Kept (cleared_by s (ref (g.threads tr.thread) r) y)
+  clear_kept : TurnsComeOut → (r cells : ℕ) → instr_at code (g.threads tr.thread).at.pc ≡ Instr.Clear r cells → (y : Stage) → (g.threads tr.thread).own.stage ≡ y → Kept (cleared_by s (ref (g.threads tr.thread) r) y)
   clear_kept outs r cells is (Clears done all seen) e =
       let calm : is_withdrawing m.own.stage ≡ false = ap is_withdrawing e in
       swapped (data_granule (ref m r) done) seen (looks m (done + 1) all) (ap (λ i. act code s i m) is ∙ ap (clear s m (ref m r) cells) e) (keeps_noted m (looks m (done + 1) all) calm going (cleared_notes (done + 1) all))
-  clear_kept outs r cells is y e = plain_kept outs (Clear r cells) is tt (subst (IsPlain (Clear r cells)) (sym e) tt)
+  clear_kept outs r cells is y e = plain_kept outs (Instr.Clear r cells) is tt (subst (IsPlain (Instr.Clear r cells)) (sym e) (refl, refl))
 
-  free_kept : TurnsComeOut → (r layout site : ℕ) → instr_at code (g.threads tr.thread).at.pc ≡ Free r layout site → (y : Stage) → (g.threads tr.thread).own.stage ≡ y → Kept (freed_by s (ref (g.threads tr.thread) r) y)
+  free_kept : TurnsComeOut → (r layout site : ℕ) → instr_at code (g.threads tr.thread).at.pc ≡ Instr.Free r layout site → (y : Stage) → (g.threads tr.thread).own.stage ≡ y → Kept (freed_by s (ref (g.threads tr.thread) r) y)
   free_kept outs r layout site is (FreeClears done elements seen) e =
       let calm : is_withdrawing m.own.stage ≡ false = ap is_withdrawing e in
       let l = layout_at code layout in
       swapped (data_granule (ref m r) done) seen (free_looks m l (done + 1) elements) (ap (λ i. act code s i m) is ∙ ap (free code s m r l) e) (keeps_noted m (free_looks m l (done + 1) elements) calm going (freed_notes l (done + 1) elements))
-  free_kept outs r layout site is y e = plain_kept outs (Free r layout site) is tt (subst (IsPlain (Free r layout site)) (sym e) tt)
+  free_kept outs r layout site is y e = plain_kept outs (Instr.Free r layout site) is tt (subst (IsPlain (Instr.Free r layout site)) (sym e) (refl, refl))
 
   -- ---- a check
   checked_notes : (kind : Kind) (p old site : ℕ) (stop : Stop) → is_withdrawing (g.threads tr.thread).own.stage ≡ false → p < granules s → (b : Bool)
@@ -261,7 +261,7 @@ module _ (x : Targets) (code : Code) (s : Shape) (ls : Labels) (laws : ShadowLaw
   noted_at_stage : (y : Stage) → (g.threads tr.thread).own.stage ≡ y → (kind : Kind) (p : ℕ) → noted_by (g.threads tr.thread) kind p ≡ cond (has_withdrawn y (g.threads tr.thread).own.table.order (is_ended (g.threads tr.thread).at.state) p) 0 (N kind p)
   noted_at_stage y e kind p = ap (λ y. cond (has_withdrawn y m.own.table.order (is_ended m.at.state) p) 0 (N kind p)) e
 
-  act_exit : instr_at code (g.threads tr.thread).at.pc ≡ Exit → (y : Stage) → (g.threads tr.thread).own.stage ≡ y → turn code s (g.threads tr.thread) ≡ exit s (g.threads tr.thread) y
+  act_exit : instr_at code (g.threads tr.thread).at.pc ≡ Instr.Exit → (y : Stage) → (g.threads tr.thread).own.stage ≡ y → turn code s (g.threads tr.thread) ≡ exit s (g.threads tr.thread) y
   act_exit is y e = ap (λ i. act code s i m) is ∙ ap (exit s m) e
 
   -- a turn on the state word
@@ -277,7 +277,7 @@ module _ (x : Targets) (code : Code) (s : Shape) (ls : Labels) (laws : ShadowLaw
       apart n p lt e = omega (arith, lt, e)
 
   -- the Cas of a row
-  withdraw_kept : (row seen : ℕ) → instr_at code (g.threads tr.thread).at.pc ≡ Exit → (g.threads tr.thread).own.stage ≡ WithdrawsFrom row seen → row < length (g.threads tr.thread).own.table.order
+  withdraw_kept : (row seen : ℕ) → instr_at code (g.threads tr.thread).at.pc ≡ Instr.Exit → (g.threads tr.thread).own.stage ≡ WithdrawsFrom row seen → row < length (g.threads tr.thread).own.table.order
       → Kept (withdrawn_by s (g.threads tr.thread) (result_of tr.event) (WithdrawsFrom row seen))
   withdraw_kept row seen is e lt =
       let q = row_of m row in
@@ -325,12 +325,12 @@ module _ (x : Targets) (code : Code) (s : Shape) (ls : Labels) (laws : ShadowLaw
       or_false false = refl
 
   abbrev StageHere : Stage → Type 0
-  StageHere y = StageStands code s st.elements world st.heap g.words tr.thread (g.threads tr.thread) Exit y
+  StageHere y = StageStands code s st.elements world st.heap g.words tr.thread (g.threads tr.thread) Instr.Exit y
 
-  first_says : instr_at code (g.threads tr.thread).at.pc ≡ Exit → turn code s (g.threads tr.thread) ≡ Asks (step_of (state_word (g.threads tr.thread).own.number) (Swap 2)) (λ found. withdraws (g.threads tr.thread) 0) → is_withdrawing (g.threads tr.thread).own.stage ≡ false → Kept Untouched
+  first_says : instr_at code (g.threads tr.thread).at.pc ≡ Instr.Exit → turn code s (g.threads tr.thread) ≡ Asks (step_of (state_word (g.threads tr.thread).own.number) (Swap 2)) (λ found. withdraws (g.threads tr.thread) 0) → is_withdrawing (g.threads tr.thread).own.stage ≡ false → Kept Untouched
   first_says is e calm = says 2 (λ found. withdraws m 0) e (λ found kind p. noted_withdraws m (st.threads t).has.table 0 (omega arith) kind p ∙ sym (noted_calm m calm going kind p))
 
-  exit_kept : instr_at code (g.threads tr.thread).at.pc ≡ Exit → (y : Stage) → (g.threads tr.thread).own.stage ≡ y → StageHere y → Kept (withdrawn_by s (g.threads tr.thread) (result_of tr.event) y)
+  exit_kept : instr_at code (g.threads tr.thread).at.pc ≡ Instr.Exit → (y : Stage) → (g.threads tr.thread).own.stage ≡ y → StageHere y → Kept (withdrawn_by s (g.threads tr.thread) (result_of tr.event) y)
   exit_kept is (Withdraws row) e stands' =
       let k = shadow_word s (row_of m row) in
       let found = slice_index g.words k in
@@ -346,12 +346,12 @@ module _ (x : Targets) (code : Code) (s : Shape) (ls : Labels) (laws : ShadowLaw
   check_calm i is n = fit_calm s m.own.stage (fit_of code s st.elements world st.heap g.words t m i m.own.stage n (subst (λ i. StageStands code s st.elements world st.heap g.words t m i m.own.stage) is stage_here))
 
   by_instr : TurnsComeOut → (i : Instr) → instr_at code (g.threads tr.thread).at.pc ≡ i → Kept (touch_of s i (g.threads tr.thread) (result_of tr.event) ((after_turn bounds (one_thread code s) g tr).threads tr.thread))
-  by_instr outs (ChkRead cell site) is = check_kept Read (granule_of (place m cell)) site (check_calm (ChkRead cell site) is tt) (ap (λ i. act code s i m) is)
-  by_instr outs (ChkWrite cell site) is = check_kept Write (granule_of (place m cell)) site (check_calm (ChkWrite cell site) is tt) (ap (λ i. act code s i m) is)
-  by_instr outs (Clear r cells) is = clear_kept outs r cells is m.own.stage refl
-  by_instr outs (Free r layout site) is = free_kept outs r layout site is m.own.stage refl
-  by_instr outs Exit is = exit_kept is m.own.stage refl (subst (λ i. StageStands code s st.elements world st.heap g.words t m i m.own.stage) is stage_here)
-  by_instr outs i is = plain_kept outs i is tt tt
+  by_instr outs (Instr.ChkRead cell site) is = check_kept Read (granule_of (place m cell)) site (check_calm (Instr.ChkRead cell site) is tt) (ap (λ i. act code s i m) is)
+  by_instr outs (Instr.ChkWrite cell site) is = check_kept Write (granule_of (place m cell)) site (check_calm (Instr.ChkWrite cell site) is tt) (ap (λ i. act code s i m) is)
+  by_instr outs (Instr.Clear r cells) is = clear_kept outs r cells is m.own.stage refl
+  by_instr outs (Instr.Free r layout site) is = free_kept outs r layout site is m.own.stage refl
+  by_instr outs Instr.Exit is = exit_kept is m.own.stage refl (subst (λ i. StageStands code s st.elements world st.heap g.words t m i m.own.stage) is stage_here)
+  by_instr outs i is = plain_kept outs i is tt (refl, refl)
 
   pub marked_turn : TurnsComeOut → AllMarked s (after_turn bounds (one_thread code s) g tr) (marks_now code s g tr marks)
   marked_turn outs = by_instr outs (instr_at code m.at.pc) refl

@@ -1,5 +1,5 @@
 -- What checks find.
-use Rattle.sharc_invariant.proofs.{Imports.{◌≡◌, ℕ, suc, ◌+◌, ◌<◌, ◌≢◌, ◌⊎◌, Bool, true, false, cond, refl, sym, ap, ◌∙◌, subst, inl, inr, ⊎_elim, cases_Bool, eqb-true, slice_index, nat_eq, if◌then◌else◌, Or, Kind, Read, Write, epoch_of, is_of, is_written, stands, Conflicts, bits_of, conflicts_in, ShadowLaws, Code, Instr, ChkRead, ChkWrite, Clear, Free, Exit, Shape, Stage, Clears, FreeClears, WithdrawsFrom, Stop, Conflict, granules, granule_at, granule_of, shadow_word, Machine, Own, step_of, act, instr_at, stopped, with_own, with_note, wrote, checked, check, row_of, ref, TurnsComeOut, may_go, turn, Turn, Global, at, MayTurn, after_turn, result_of, one_thread, bounds, put_same, Touch, Untouched, CheckOf, WithdrawOf, Marks, cleared_by, freed_by, withdrawn_by, touch_of, marks_after, CheckStands, RunsConflict, touch_at, Passed, Targets, Labels, World, shadow_at, is_withdrawing, noted_by, first_place, State, RunsFromTheBeginning, eq_refl}, TurnAt.{turn_at, turn_stands}, Turns.asks_turn, Withdrawn.wrote_now, BitTurns.{AllMarked, IsNoExit, in_low, at_low, going_on, noted_calm, check_calm, owned, bit_here, written_here, marked_after}}
+use Rattle.sharc_invariant.proofs.{Imports.{◌≡◌, ℕ, suc, ◌+◌, ◌<◌, ◌≢◌, ◌⊎◌, Bool, true, false, cond, refl, sym, ap, ◌∙◌, subst, inl, inr, ⊎_elim, cases_Bool, eqb-true, slice_index, nat_eq, if◌then◌else◌, Or, Kind, Read, Write, epoch_of, is_of, is_written, stands, Conflicts, bits_of, conflicts_in, ShadowLaws, Code, Instr, Shape, Stage, Clears, FreeClears, WithdrawsFrom, Stop, Conflict, granules, granule_at, granule_of, shadow_word, Machine, Own, step_of, act, instr_at, stopped, with_own, with_note, wrote, checked, check, row_of, ref, TurnsComeOut, may_go, turn, Turn, Global, at, MayTurn, after_turn, result_of, one_thread, bounds, put_same, Touch, Untouched, CheckOf, WithdrawOf, Marks, cleared_by, freed_by, withdrawn_by, touch_of, marks_after, CheckStands, RunsConflict, touch_at, Passed, Targets, Labels, World, shadow_at, is_withdrawing, noted_by, first_place, State, RunsFromTheBeginning, eq_refl}, TurnAt.{turn_at, turn_stands}, Turns.asks_turn, Withdrawn.wrote_now, BitTurns.{AllMarked, IsNoExit, in_low, at_low, going_on, noted_calm, check_calm, owned, bit_here, written_here, marked_after}}
 use Rattle.sharc_code.specs.Machine.{place}
 
 -- a check goes on where it finds no conflict
@@ -129,13 +129,13 @@ module _ (x : Targets) (code : Code) (s : Shape) (ls : Labels) (laws : ShadowLaw
 
   by_instr : (i : Instr) → instr_at code (g.threads tr.thread).at.pc ≡ i → (kind : Kind) (p : ℕ) (ok : Bool)
       → Parts (touch_of s i (g.threads tr.thread) (result_of tr.event) ((after_turn bounds (one_thread code s) g tr).threads tr.thread)) kind p ok → Stands p kind ok
-  by_instr (ChkRead cell site) is kind p ok e =
-      moved Read kind (granule_at s (granule_of (place m cell))) p (may_go ((after_turn bounds (one_thread code s) g tr).threads t).at.state) ok e (check_stands (ChkRead cell site) Read (granule_of (place m cell)) site is tt (ap (λ i. act code s i m) is))
-  by_instr (ChkWrite cell site) is kind p ok e =
-      moved Write kind (granule_at s (granule_of (place m cell))) p (may_go ((after_turn bounds (one_thread code s) g tr).threads t).at.state) ok e (check_stands (ChkWrite cell site) Write (granule_of (place m cell)) site is tt (ap (λ i. act code s i m) is))
-  by_instr (Clear r cells) is kind p ok e = absurd (no_clear s (ref m r) m.own.stage kind p ok e)
-  by_instr (Free r layout site) is kind p ok e = absurd (no_free s (ref m r) m.own.stage kind p ok e)
-  by_instr Exit is kind p ok e = absurd (no_exit s m (result_of tr.event) m.own.stage kind p ok e)
+  by_instr (Instr.ChkRead cell site) is kind p ok e =
+      moved Read kind (granule_at s (granule_of (place m cell))) p (may_go ((after_turn bounds (one_thread code s) g tr).threads t).at.state) ok e (check_stands (Instr.ChkRead cell site) Read (granule_of (place m cell)) site is tt (ap (λ i. act code s i m) is))
+  by_instr (Instr.ChkWrite cell site) is kind p ok e =
+      moved Write kind (granule_at s (granule_of (place m cell))) p (may_go ((after_turn bounds (one_thread code s) g tr).threads t).at.state) ok e (check_stands (Instr.ChkWrite cell site) Write (granule_of (place m cell)) site is tt (ap (λ i. act code s i m) is))
+  by_instr (Instr.Clear r cells) is kind p ok e = absurd (no_clear s (ref m r) m.own.stage kind p ok e)
+  by_instr (Instr.Free r layout site) is kind p ok e = absurd (no_free s (ref m r) m.own.stage kind p ok e)
+  by_instr Instr.Exit is kind p ok e = absurd (no_exit s m (result_of tr.event) m.own.stage kind p ok e)
   by_instr _ is kind p ok e = absurd e
 
   pub conflict_turn : (kind : Kind) (p : ℕ) (ok : Bool) → touch_at code s g tr ≡ CheckOf kind p ok → CheckStands tr.thread kind (slice_index g.words (shadow_word s p)) (marks p) ok

@@ -1,5 +1,5 @@
 -- A thread that does not make the turn stays as it stood.
-use Rattle.sharc_invariant.proofs.Imports.{◌≡◌, ℕ, ◌+◌, ◌*◌, ◌<◌, ◌≤◌, ◌≢◌, List, Option, Some, None, refl, sym, ap, ◌∙◌, subst, arith, slice_index, NewView, NewArguments, NewStage, Code, Instr, Clear, New, Free, Spawn, Start, Register, Shape, Stage, Rests, Looks, Clears, Makes, Empties, Lowers, FreeLooks, FreeClears, Uncounts, Links, Names, Hands, Begins, Enters, function_word, argument_word, first_cell, Machine, ref, pointer_cell, layout_at, GranuleState, Gate, Holds, Loaded, HoldsLoaded, RegisterOf, CellOf as Cell, Sole, Shut, IsLoaded, World, in_ref, Heap, Built, KeepsOthers, OnlyLoses, StopStands, GateStands, base_of_cell, number_in, StageStands, OnClear, OnNew, OnFree, OnSpawn, OnStart, AreCleared, Swapping, Emptying, Reserves, SpawnsNow, BuildsAt, all_pointers, granules_freed}
+use Rattle.sharc_invariant.proofs.Imports.{◌≡◌, ℕ, ◌+◌, ◌*◌, ◌<◌, ◌≤◌, ◌≢◌, List, Option, Some, None, refl, sym, ap, ◌∙◌, subst, arith, slice_index, NewView, NewArguments, NewStage, Code, Instr, Register, Shape, Stage, Rests, Looks, Clears, Makes, Empties, Lowers, FreeLooks, FreeClears, Uncounts, Links, Names, Hands, Begins, Enters, function_word, argument_word, first_cell, Machine, ref, pointer_cell, layout_at, GranuleState, Gate, Holds, Loaded, HoldsLoaded, RegisterOf, CellOf as Cell, Sole, Shut, IsLoaded, World, in_ref, Heap, Built, KeepsOthers, OnlyLoses, StopStands, GateStands, base_of_cell, number_in, StageStands, OnClear, OnNew, OnFree, OnSpawn, OnStart, AreCleared, Swapping, Emptying, Reserves, SpawnsNow, BuildsAt, all_pointers, granules_freed}
 pub use Rattle.sharc_invariant.specs.State.{OnHold}
 
 -- a granule that is as it was loses nothing
@@ -20,28 +20,28 @@ stop_at s w t m m' _ gate shut = shut
 -- ---- an instruction of a kind
 -- the register whose object it walks over
 abbrev pub operand : Instr → Option ℕ
-operand (Clear r count) = Some r
-operand (Free r layout site) = Some r
+operand (Instr.Clear r count) = Some r
+operand (Instr.Free r layout site) = Some r
 operand _ = None
 
 pub map_clear : (P Q : ℕ → ℕ → Type 0) (i : Instr) → ((r c : ℕ) → operand i ≡ Some r → P r c → Q r c) → OnClear P i → OnClear Q i
-map_clear P Q (Clear r c) f h = f r c refl h
+map_clear P Q (Instr.Clear r c) f h = f r c refl h
 map_clear P Q _ f h = absurd h
 
 pub map_new : (P Q : ℕ → ℕ → ℕ → Type 0) (i : Instr) → ((r c n : ℕ) → P r c n → Q r c n) → OnNew P i → OnNew Q i
-map_new P Q (New r c n site) f h = f r c n h
+map_new P Q (Instr.New r c n site) f h = f r c n h
 map_new P Q _ f h = absurd h
 
 pub map_free : (P Q : ℕ → ℕ → Type 0) (i : Instr) → ((r l : ℕ) → operand i ≡ Some r → P r l → Q r l) → OnFree P i → OnFree Q i
-map_free P Q (Free r l site) f h = f r l refl h
+map_free P Q (Instr.Free r l site) f h = f r l refl h
 map_free P Q _ f h = absurd h
 
 pub map_spawn : (P Q : ℕ → Register → Type 0) (i : Instr) → ((f : ℕ) (from : Register) → P f from → Q f from) → OnSpawn P i → OnSpawn Q i
-map_spawn P Q (Spawn r n from site) f h = f n from h
+map_spawn P Q (Instr.Spawn r n from site) f h = f n from h
 map_spawn P Q _ f h = absurd h
 
 pub map_start : (P Q : Type 0) (i : Instr) → (P → Q) → OnStart P i → OnStart Q i
-map_start P Q (Start site) f h = f h
+map_start P Q (Instr.Start site) f h = f h
 map_start P Q _ f h = absurd h
 
 module _ (code : Code) (s : Shape) (elements : ℕ → ℕ) (w w' : World) (heap heap' : Heap) (words words' : List ℕ) (t : ℕ) (k : KeepsOthers s w w' heap heap' words words' t) (u : ℕ) (ne : u ≢ t) (m : Machine) (i : Instr)

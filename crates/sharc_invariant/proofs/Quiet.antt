@@ -1,5 +1,5 @@
 -- A turn that changes no thread's words, no object, no mutex and no block: what it leaves of the invariant is the same for all.
-use Rattle.sharc_invariant.proofs.{Imports.{◌≡◌, ℕ, pos, zero, suc, ◌+◌, ◌*◌, ◌^◌, ◌<◌, ◌≤◌, ◌≢◌, ◌⊎◌, ◌||◌, ◌&&◌, Bool, true, false, cond, List, Option, Some, None, refl, sym, ap, ◌∙◌, subst, inl, inr, ⊎_elim, arith, ltb-true, cases_eq, fun_ext, length, slice_index, nat_eq, nat_lt, ◌↔◌, ◌==◌, is_some, Contains, THREADS, HeldMutex, IsHeldLog, object_of, Read, Write, Kind, note_of, Accesses, ListsNoted, epoch_of, Code, Shape, Instr, Clear, Free, Stage, Rests, Links, int_of, top_word, next_thread_word, state_word, function_word, argument_word, granules, first_cell, Machine, reference_of, function_of, instr_at, ref, may_go, counted, Global, put, is_started, bounds, put_same, put_other, put_all, sum_to, Targets, nothing, field_in, is_mutex, cells_of, Gate, Holds, HoldsLoaded, SoleGate, Label, Labels, Fine, IsWellTyped, RegisterOf, ArgumentOf, In, TypedReference, ObjectState, Sole, World, in_ref, WorldInvariant, Heap, Kept, Live, is_freed, is_first, if_reference, note_number, conc_of, Shows, Apart, register_of, argument_of, is_unread, staged_of, noted_by, logged, is_ended, has_withdrawn, lang_of, cell_at, making_of, head_of, head_with, made_turn, made_conc, KeepsOthers, StopStands, block_for, State, View, view_of, HeapStands, Locks, Threads, Firsts, NumberStands, ThreadStands, IsThread, Runs, SpawnsNow, Reserves, EntryStands, FramesStand, GateStands, label_now, size_of_run, Looks, Clears, Empties, Lowers, FreeLooks, FreeClears, Uncounts, StageStands, data_granules, Own as Own'}, TurnAt.thread_at, Frames.{Agrees, Always, top_agrees, callers_agree}, Others.{stop_kept, stage_kept, operand, OnHold, map_clear, map_free}}
+use Rattle.sharc_invariant.proofs.{Imports.{◌≡◌, ℕ, pos, zero, suc, ◌+◌, ◌*◌, ◌^◌, ◌<◌, ◌≤◌, ◌≢◌, ◌⊎◌, ◌||◌, ◌&&◌, Bool, true, false, cond, List, Option, Some, None, refl, sym, ap, ◌∙◌, subst, inl, inr, ⊎_elim, arith, ltb-true, cases_eq, fun_ext, length, slice_index, nat_eq, nat_lt, ◌↔◌, ◌==◌, is_some, Contains, THREADS, HeldMutex, IsHeldLog, object_of, Read, Write, Kind, note_of, Accesses, ListsNoted, epoch_of, Code, Shape, Instr, Stage, Rests, Links, int_of, top_word, next_thread_word, state_word, function_word, argument_word, granules, first_cell, Machine, reference_of, function_of, instr_at, ref, may_go, counted, Global, put, is_started, bounds, put_same, put_other, put_all, sum_to, Targets, nothing, field_in, is_mutex, cells_of, Gate, Holds, HoldsLoaded, SoleGate, Label, Labels, Fine, IsWellTyped, RegisterOf, ArgumentOf, In, TypedReference, ObjectState, Sole, World, in_ref, WorldInvariant, Heap, Kept, Live, is_freed, is_first, if_reference, note_number, conc_of, Shows, Apart, register_of, argument_of, is_unread, staged_of, noted_by, logged, is_ended, has_withdrawn, lang_of, cell_at, making_of, head_of, head_with, made_turn, made_conc, KeepsOthers, StopStands, block_for, State, View, view_of, HeapStands, Locks, Threads, Firsts, NumberStands, ThreadStands, IsThread, Runs, SpawnsNow, Reserves, EntryStands, FramesStand, GateStands, label_now, size_of_run, Looks, Clears, Empties, Lowers, FreeLooks, FreeClears, Uncounts, StageStands, data_granules, Own as Own'}, TurnAt.thread_at, Frames.{Agrees, Always, top_agrees, callers_agree}, Others.{stop_kept, stage_kept, operand, OnHold, map_clear, map_free}}
 
 -- how long the lists of a thread's machine are, what its number is and what its table says of rows
 pub record KeepsSizes (m m' : Machine) : Type 0 where
@@ -174,16 +174,16 @@ heap_stays s cells g obj obj' heap t words m' h same kept top heads =
     }
 
 pub sole_gate : (x : Targets) (code : Code) (ls : Labels) (pc : ℕ) (l : Label) (i : Instr) (r : ℕ) → Fine x code ls pc l i → operand i ≡ Some r → (c : Bool) × (l.gate ≡ SoleGate r c)
-sole_gate x code ls pc l (Clear q count) r f e = let k : q ≡ r = cc in (false, f.0 ∙ ap (λ q. SoleGate q false) k)
-sole_gate x code ls pc l (Free q layout site) r f e = let k : q ≡ r = cc in (f.0.0, f.0.1 ∙ ap (λ q. SoleGate q f.0.0) k)
+sole_gate x code ls pc l (Instr.Clear q count) r f e = let k : q ≡ r = cc in (false, f.0 ∙ ap (λ q. SoleGate q false) k)
+sole_gate x code ls pc l (Instr.Free q layout site) r f e = let k : q ≡ r = cc in (f.0.0, f.0.1 ∙ ap (λ q. SoleGate q f.0.0) k)
 sole_gate x code ls pc l _ r f e = absurd (cc)
 
 pub label_held : (l : Label) (i : Instr) (stage : Stage) → OnHold stage → label_now l i stage ≡ l
-label_held l (Free r layout site) (Links all) h = absurd h
+label_held l (Instr.Free r layout site) (Links all) h = absurd h
 label_held l _ stage h = refl
 
 pub freed_held : (i : Instr) (stage : Stage) (base j : ℕ) → OnHold stage → is_freed i stage base j ≡ false
-freed_held (Free r layout site) (Links all) base j h = absurd h
+freed_held (Instr.Free r layout site) (Links all) base j h = absurd h
 freed_held _ stage base j h = refl
 
 abbrev pub noted_of : Stage → Accesses → Bool → Kind → ℕ → ℕ

@@ -1,5 +1,5 @@
 -- The sample is well typed.
-use Rattle.sharc_invariant.proofs.{Imports.{◌≡◌, ℕ, pos, zero, suc, ◌+◌, ◌%◌, ◌<◌, ◌≤◌, ◌⊎◌, ◌≢◌, Bool, true, false, List, [], ◌∷◌, Some, None, refl, sym, ap, ◌∙◌, subst, inl, inr, arith, eqb-false, length, slice_index, slice_index_or, nat_eq, Code, GlobalCells, Instr, Constant, MoveReference, JumpIfNull, ChkNull, ChkHeld, ChkNotHeld, ChkRoom, ChkLock, ChkWrite, Store, Raise, Lower, New, TakeLocal, TestSole, Clear, Give, Unlock, Spawn, Exit, Char, Int, Long, instr_at, function_of, put, Cell, Register, put_other, put_all, FieldMode, type_in, AreTargets, ObjectType, Field, Content, CellMode, field_at, field_in, field_of_cell, global_field, mode_in, is_private, is_pointer, is_mutex, cells_of, nothing, Under, OfType, OfGlobals, OfSameElement as OfElement, Integer, MutexWord, Waiters, Pointer, Entry, Empty, Refers, Number, Anything, Exactly, Within, Gate, Closed, Checked, Holds, SoleGate as Sole, Label, Labels, Less, Leads, SameReference, Itself, IsCopy, LessEntry, EntryMentions, IsScoped, IsFree, HasBase as BaseOf, fill, empty, gated, knows, set_number, IsPlain, IsWellTyped, AreGlobals, Initial, Fine, HasCell, IsVacant, IsSameContent, MayStart, Directly, refs_in, ints_in, entry_label, the_targets, the_private, the_dynamic, the_instrs, the_labels, the_labels_list, outside, raised, w2, w4, w5, w8, w10, w13, w15, w16, w17, w19, w21, w22, w23, w24, w25, w26, m27, m28, m29, m30, m31, m32, m33, m34, given, m35, m36, m37, m38, m39, m40, m41, IsSample, StaticType}, Scoped.{less_refl, scoped_gate, scoped_room, scoped_knows, scoped_forgets, scoped_number, scoped_fill, scoped_empty}}
+use Rattle.sharc_invariant.proofs.{Imports.{◌≡◌, ℕ, pos, zero, suc, ◌+◌, ◌%◌, ◌<◌, ◌≤◌, ◌⊎◌, ◌≢◌, Bool, true, false, List, [], ◌∷◌, Some, None, refl, sym, ap, ◌∙◌, subst, inl, inr, arith, eqb-false, length, slice_index, slice_index_or, nat_eq, Code, GlobalCells, Instr, Char, Int, Long, instr_at, function_of, put, Cell, Register, put_other, put_all, FieldMode, type_in, AreTargets, ObjectType, Field, Content, CellMode, field_at, field_in, field_of_cell, global_field, mode_in, is_private, is_pointer, is_mutex, cells_of, nothing, Under, OfType, OfGlobals, OfSameElement as OfElement, Integer, MutexWord, Waiters, Pointer, Entry, Empty, Refers, Number, Anything, Exactly, Within, Gate, Closed, Checked, Holds, SoleGate as Sole, Label, Labels, Less, Leads, SameReference, Itself, IsCopy, LessEntry, EntryMentions, IsScoped, IsFree, HasBase as BaseOf, fill, empty, gated, knows, set_number, IsPlain, IsWellTyped, AreGlobals, Initial, Fine, HasCell, IsVacant, IsSameContent, MayStart, Directly, refs_in, ints_in, entry_label, the_targets, the_private, the_dynamic, the_instrs, the_labels, the_labels_list, outside, raised, w2, w4, w5, w8, w10, w13, w15, w16, w17, w19, w21, w22, w23, w24, w25, w26, m27, m28, m29, m30, m31, m32, m33, m34, given, m35, m36, m37, m38, m39, m40, m41, IsSample, StaticType}, Scoped.{less_refl, scoped_gate, scoped_room, scoped_knows, scoped_forgets, scoped_number, scoped_fill, scoped_empty}}
 use Rattle.sharc_code.specs.declared.instr.Instr.TheVariants.{Return, Lock}
 use Rattle.sharc_invariant.specs.{Types.row_of, Types.FieldMode.{Private, Readonly, Racy, Dynamic, Behind}}
 
@@ -192,7 +192,7 @@ EachAt P n [] [] = Unit {0}
 EachAt P n (l ∷ ls) (i ∷ is) = P n l i × EachAt P (n + 1) ls is
 EachAt P n _ _ = ⊥
 
-each : (P : ℕ → Label → Instr → Type 0) (n : ℕ) (ls : List Label) (is : List Instr) → EachAt P n ls is → ((k : ℕ) → P k outside Exit) → (pc k : ℕ) → k ≡ n + pc → P k (slice_index_or ls pc outside) (slice_index_or is pc Exit)
+each : (P : ℕ → Label → Instr → Type 0) (n : ℕ) (ls : List Label) (is : List Instr) → EachAt P n ls is → ((k : ℕ) → P k outside Instr.Exit) → (pc k : ℕ) → k ≡ n + pc → P k (slice_index_or ls pc outside) (slice_index_or is pc Instr.Exit)
 unfolding EachAt
 each P n [] [] h past pc k e = past k
 each P n (l ∷ ls) (i ∷ is) h past zero k e = subst (λ k. P k l i) (let q : n ≡ k = omega arith in q) h.0
@@ -271,7 +271,7 @@ module _ (code : Code) (is : IsSample code) where
   vacant l r e lt h = record { is = omega arith; empty = h }
 
   abbrev Right : ℕ → Label → Instr → Type 0
-  Right pc l i = Fine the_targets code the_labels pc l i × IsScoped (ints_in code l.function) (refs_in code l.function) l × (l.function ≡ None → (pc ≡ 0) ⊎ (i ≡ Exit))
+  Right pc l i = Fine the_targets code the_labels pc l i × IsScoped (ints_in code l.function) (refs_in code l.function) l × (l.function ≡ None → (pc ≡ 0) ⊎ (i ≡ Instr.Exit))
 
   in_w : (l : Label) → l.function ≡ Some 1 → IsScoped 1 3 l → IsScoped (ints_in code l.function) (refs_in code l.function) l
   in_w l e h = subst (λ f. IsScoped (ints_in code f) (refs_in code f) l) (sym e) (subst (λ n. IsScoped n (refs_in code (Some 1)) l) (sym ints_w) (subst (λ n. IsScoped 1 n l) (sym refs_w) h))
@@ -288,122 +288,122 @@ module _ (code : Code) (is : IsSample code) where
   m : (pc : ℕ) (l : Label) (i : Instr) → l.function ≡ Some 0 → Fine the_targets code the_labels pc l i → Sound 2 3 l → Right pc l i
   m pc l i e f h = (f, in_m l e h.scoped, λ z. absurd (let q : Some 0 ≡ None = sym e ∙ z in cc))
 
-  p2 : Right 2 w2 (Raise 1 0)
-  p2 = w 2 w2 (Raise 1 0) refl (refl, vacant w2 1 (sym refs_w) (omega arith) refl, (let b = refs_w in omega arith), less_refl (raised w2 1 0)) s2
+  p2 : Right 2 w2 (Instr.Raise 1 0)
+  p2 = w 2 w2 (Instr.Raise 1 0) refl (refl, vacant w2 1 (sym refs_w) (omega arith) refl, (let b = refs_w in omega arith), less_refl (raised w2 1 0)) s2
 
-  p3 : Right 3 (raised w2 1 0) (ChkNull 1 0)
-  p3 = w 3 (raised w2 1 0) (ChkNull 1 0) refl (refl, less_refl w4) s3
+  p3 : Right 3 (raised w2 1 0) (Instr.ChkNull 1 0)
+  p3 = w 3 (raised w2 1 0) (Instr.ChkNull 1 0) refl (refl, less_refl w4) s3
 
-  p4 : Right 4 w4 (Constant 0 (pos 1))
-  p4 = w 4 w4 (Constant 0 (pos 1)) refl (refl, (let b = ints_w in omega arith), less_refl w5) s4
+  p4 : Right 4 w4 (Instr.Constant 0 (pos 1))
+  p4 = w 4 w4 (Instr.Constant 0 (pos 1)) refl (refl, (let b = ints_w in omega arith), less_refl w5) s4
 
-  p5 : Right 5 w5 (ChkWrite (Cell.Object 1 2) 1)
-  p5 = w 5 w5 (ChkWrite (Cell.Object 1 2) 1) refl (refl, (f_dynamic, (has_cell w5 2 f_dynamic refl refl refl (omega arith) refl), refl), inl (less_refl (gated w5 (Checked true (Cell.Object 1 2))))) s5
+  p5 : Right 5 w5 (Instr.ChkWrite (Cell.Object 1 2) 1)
+  p5 = w 5 w5 (Instr.ChkWrite (Cell.Object 1 2) 1) refl (refl, (f_dynamic, (has_cell w5 2 f_dynamic refl refl refl (omega arith) refl), refl), inl (less_refl (gated w5 (Checked true (Cell.Object 1 2))))) s5
 
-  p6 : Right 6 (gated w5 (Checked true (Cell.Object 1 2))) (Store 0 (Cell.Object 1 2) 1)
-  p6 = w 6 (gated w5 (Checked true (Cell.Object 1 2))) (Store 0 (Cell.Object 1 2) 1) refl (f_dynamic, Int, record { cell = (has_cell (gated w5 (Checked true (Cell.Object 1 2))) 2 f_dynamic refl refl refl (omega arith) refl); may = Directly true refl tt; apart = tt; mode = is.sites.0 }, refl, refl, less_refl (gated (gated w5 (Checked true (Cell.Object 1 2))) Closed)) s6
+  p6 : Right 6 (gated w5 (Checked true (Cell.Object 1 2))) (Instr.Store 0 (Cell.Object 1 2) 1)
+  p6 = w 6 (gated w5 (Checked true (Cell.Object 1 2))) (Instr.Store 0 (Cell.Object 1 2) 1) refl (f_dynamic, Int, record { cell = (has_cell (gated w5 (Checked true (Cell.Object 1 2))) 2 f_dynamic refl refl refl (omega arith) refl); may = Directly true refl tt; apart = tt; mode = is.sites.0 }, refl, refl, less_refl (gated (gated w5 (Checked true (Cell.Object 1 2))) Closed)) s6
 
-  p7 : Right 7 (gated (gated w5 (Checked true (Cell.Object 1 2))) Closed) (Lower 1)
-  p7 = w 7 (gated (gated w5 (Checked true (Cell.Object 1 2))) Closed) (Lower 1) refl (refl, (let b = refs_w in omega arith), inl (free_by (gated (gated w5 (Checked true (Cell.Object 1 2))) Closed) 1 s7.free, less_refl w8)) s7
+  p7 : Right 7 (gated (gated w5 (Checked true (Cell.Object 1 2))) Closed) (Instr.Lower 1)
+  p7 = w 7 (gated (gated w5 (Checked true (Cell.Object 1 2))) Closed) (Instr.Lower 1) refl (refl, (let b = refs_w in omega arith), inl (free_by (gated (gated w5 (Checked true (Cell.Object 1 2))) Closed) 1 s7.free, less_refl w8)) s7
 
-  p8 : Right 8 w8 (Raise 1 0)
-  p8 = w 8 w8 (Raise 1 0) refl (refl, vacant w8 1 (sym refs_w) (omega arith) refl, (let b = refs_w in omega arith), less_refl (raised w8 1 0)) s8
+  p8 : Right 8 w8 (Instr.Raise 1 0)
+  p8 = w 8 w8 (Instr.Raise 1 0) refl (refl, vacant w8 1 (sym refs_w) (omega arith) refl, (let b = refs_w in omega arith), less_refl (raised w8 1 0)) s8
 
-  p9 : Right 9 (raised w8 1 0) (ChkNull 1 0)
-  p9 = w 9 (raised w8 1 0) (ChkNull 1 0) refl (refl, less_refl w10) s9
+  p9 : Right 9 (raised w8 1 0) (Instr.ChkNull 1 0)
+  p9 = w 9 (raised w8 1 0) (Instr.ChkNull 1 0) refl (refl, less_refl w10) s9
 
-  p10 : Right 10 w10 (ChkNotHeld (Cell.Object 1 0) 0)
-  p10 = w 10 w10 (ChkNotHeld (Cell.Object 1 0) 0) refl (refl, (f_mutex, (has_cell w10 0 f_mutex refl refl refl (omega arith) refl), refl), less_refl w10) s10
+  p10 : Right 10 w10 (Instr.ChkNotHeld (Cell.Object 1 0) 0)
+  p10 = w 10 w10 (Instr.ChkNotHeld (Cell.Object 1 0) 0) refl (refl, (f_mutex, (has_cell w10 0 f_mutex refl refl refl (omega arith) refl), refl), less_refl w10) s10
 
-  p11 : Right 11 w10 (ChkRoom 0)
-  p11 = w 11 w10 (ChkRoom 0) refl (refl, less_refl (record w10 { room = true })) s10
+  p11 : Right 11 w10 (Instr.ChkRoom 0)
+  p11 = w 11 w10 (Instr.ChkRoom 0) refl (refl, less_refl (record w10 { room = true })) s10
 
   p12 : Right 12 (record w10 { room = true }) (Lock (Cell.Object 1 0) 0)
   p12 = w 12 (record w10 { room = true }) (Lock (Cell.Object 1 0) 0) refl (refl, refl, (f_mutex, (has_cell (record w10 { room = true }) 0 f_mutex refl refl refl (omega arith) refl), refl), free_by (record w10 { room = true }) 1 s12.free, less_refl w13) s12
 
-  p13 : Right 13 w13 (Raise 1 0)
-  p13 = w 13 w13 (Raise 1 0) refl (refl, vacant w13 1 (sym refs_w) (omega arith) refl, (let b = refs_w in omega arith), less_refl (raised w13 1 0)) s13
+  p13 : Right 13 w13 (Instr.Raise 1 0)
+  p13 = w 13 w13 (Instr.Raise 1 0) refl (refl, vacant w13 1 (sym refs_w) (omega arith) refl, (let b = refs_w in omega arith), less_refl (raised w13 1 0)) s13
 
-  p14 : Right 14 (raised w13 1 0) (ChkNull 1 0)
-  p14 = w 14 (raised w13 1 0) (ChkNull 1 0) refl (refl, less_refl w15) s14
+  p14 : Right 14 (raised w13 1 0) (Instr.ChkNull 1 0)
+  p14 = w 14 (raised w13 1 0) (Instr.ChkNull 1 0) refl (refl, less_refl w15) s14
 
-  p15 : Right 15 w15 (Constant 0 (pos 2))
-  p15 = w 15 w15 (Constant 0 (pos 2)) refl (refl, (let b = ints_w in omega arith), less_refl w16) s15
+  p15 : Right 15 w15 (Instr.Constant 0 (pos 2))
+  p15 = w 15 w15 (Instr.Constant 0 (pos 2)) refl (refl, (let b = ints_w in omega arith), less_refl w16) s15
 
-  p16 : Right 16 w16 (ChkLock (Cell.Object 1 0) 2)
-  p16 = w 16 w16 (ChkLock (Cell.Object 1 0) 2) refl (refl, (f_mutex, (has_cell w16 0 f_mutex refl refl refl (omega arith) refl).field, refl), less_refl w17) s16
+  p16 : Right 16 w16 (Instr.ChkLock (Cell.Object 1 0) 2)
+  p16 = w 16 w16 (Instr.ChkLock (Cell.Object 1 0) 2) refl (refl, (f_mutex, (has_cell w16 0 f_mutex refl refl refl (omega arith) refl).field, refl), less_refl w17) s16
 
-  p17 : Right 17 w17 (Store 0 (Cell.Object 1 1) 2)
-  p17 = w 17 w17 (Store 0 (Cell.Object 1 1) 2) refl (f_locked, Int, record { cell = (has_cell w17 1 f_locked refl refl refl (omega arith) refl); may = (Cell.Object 1 0, f_mutex, refl, (has_cell w17 0 f_mutex refl refl refl (omega arith) refl), refl, (Itself refl, omega arith, omega arith)); apart = tt; mode = (is.sites.1, tt) }, refl, refl, less_refl (gated w17 Closed)) s17
+  p17 : Right 17 w17 (Instr.Store 0 (Cell.Object 1 1) 2)
+  p17 = w 17 w17 (Instr.Store 0 (Cell.Object 1 1) 2) refl (f_locked, Int, record { cell = (has_cell w17 1 f_locked refl refl refl (omega arith) refl); may = (Cell.Object 1 0, f_mutex, refl, (has_cell w17 0 f_mutex refl refl refl (omega arith) refl), refl, (Itself refl, omega arith, omega arith)); apart = tt; mode = (is.sites.1, tt) }, refl, refl, less_refl (gated w17 Closed)) s17
 
-  p18 : Right 18 (gated w17 Closed) (Lower 1)
-  p18 = w 18 (gated w17 Closed) (Lower 1) refl (refl, (let b = refs_w in omega arith), inl (free_by (gated w17 Closed) 1 s18.free, less_refl w19)) s18
+  p18 : Right 18 (gated w17 Closed) (Instr.Lower 1)
+  p18 = w 18 (gated w17 Closed) (Instr.Lower 1) refl (refl, (let b = refs_w in omega arith), inl (free_by (gated w17 Closed) 1 s18.free, less_refl w19)) s18
 
-  p19 : Right 19 w19 (Raise 1 0)
-  p19 = w 19 w19 (Raise 1 0) refl (refl, vacant w19 1 (sym refs_w) (omega arith) refl, (let b = refs_w in omega arith), less_refl (raised w19 1 0)) s19
+  p19 : Right 19 w19 (Instr.Raise 1 0)
+  p19 = w 19 w19 (Instr.Raise 1 0) refl (refl, vacant w19 1 (sym refs_w) (omega arith) refl, (let b = refs_w in omega arith), less_refl (raised w19 1 0)) s19
 
-  p20 : Right 20 (raised w19 1 0) (ChkNull 1 0)
-  p20 = w 20 (raised w19 1 0) (ChkNull 1 0) refl (refl, less_refl w21) s20
+  p20 : Right 20 (raised w19 1 0) (Instr.ChkNull 1 0)
+  p20 = w 20 (raised w19 1 0) (Instr.ChkNull 1 0) refl (refl, less_refl w21) s20
 
-  p21 : Right 21 w21 (ChkHeld (Cell.Object 1 0) 0)
-  p21 = w 21 w21 (ChkHeld (Cell.Object 1 0) 0) refl (refl, (f_mutex, (has_cell w21 0 f_mutex refl refl refl (omega arith) refl), refl), less_refl w22) s21
+  p21 : Right 21 w21 (Instr.ChkHeld (Cell.Object 1 0) 0)
+  p21 = w 21 w21 (Instr.ChkHeld (Cell.Object 1 0) 0) refl (refl, (f_mutex, (has_cell w21 0 f_mutex refl refl refl (omega arith) refl), refl), less_refl w22) s21
 
-  p22 : Right 22 w22 (Unlock 2 (Cell.Object 1 0) 0)
-  p22 = w 22 w22 (Unlock 2 (Cell.Object 1 0) 0) refl (refl, vacant w22 2 (sym refs_w) (omega arith) refl, (f_mutex, (has_cell w22 0 f_mutex refl refl refl (omega arith) refl), refl), less_refl w23) s22
+  p22 : Right 22 w22 (Instr.Unlock 2 (Cell.Object 1 0) 0)
+  p22 = w 22 w22 (Instr.Unlock 2 (Cell.Object 1 0) 0) refl (refl, vacant w22 2 (sym refs_w) (omega arith) refl, (f_mutex, (has_cell w22 0 f_mutex refl refl refl (omega arith) refl), refl), less_refl w23) s22
 
-  p23 : Right 23 w23 (Lower 2)
-  p23 = w 23 w23 (Lower 2) refl (refl, (let b = refs_w in omega arith), inl (free_by w23 2 s23.free, less_refl w24)) s23
+  p23 : Right 23 w23 (Instr.Lower 2)
+  p23 = w 23 w23 (Instr.Lower 2) refl (refl, (let b = refs_w in omega arith), inl (free_by w23 2 s23.free, less_refl w24)) s23
 
-  p24 : Right 24 w24 (Lower 1)
-  p24 = w 24 w24 (Lower 1) refl (refl, (let b = refs_w in omega arith), inl (free_by w24 1 s24.free, less_refl w25)) s24
+  p24 : Right 24 w24 (Instr.Lower 1)
+  p24 = w 24 w24 (Instr.Lower 1) refl (refl, (let b = refs_w in omega arith), inl (free_by w24 1 s24.free, less_refl w25)) s24
 
-  p25 : Right 25 w25 (Lower 0)
-  p25 = w 25 w25 (Lower 0) refl (refl, (let b = refs_w in omega arith), inl (free_by w25 0 s25.free, less_refl w26)) s25
+  p25 : Right 25 w25 (Instr.Lower 0)
+  p25 = w 25 w25 (Instr.Lower 0) refl (refl, (let b = refs_w in omega arith), inl (free_by w25 0 s25.free, less_refl w26)) s25
 
   p26 : Right 26 w26 (Return 0)
   p26 = w 26 w26 (Return 0) refl (refl, (1, refl, record { result = refl; result_int = tt; empty = gone26 })) s26
 
-  p27 : Right 27 m27 (Constant 0 (pos 1))
-  p27 = m 27 m27 (Constant 0 (pos 1)) refl (refl, (let b = ints_m in omega arith), less_refl m28) s27
+  p27 : Right 27 m27 (Instr.Constant 0 (pos 1))
+  p27 = m 27 m27 (Instr.Constant 0 (pos 1)) refl (refl, (let b = ints_m in omega arith), less_refl m28) s27
 
-  p28 : Right 28 m28 (New 2 0 3 0)
-  p28 = m 28 m28 (New 2 0 3 0) refl (refl, vacant m28 2 (sym refs_m) (omega arith) refl, (the_private, (λ e. omega arith), omega arith, refl, omega arith, (λ i. no_pointer (i % cells_of the_targets 1)), (λ h. h), less_refl m29)) s28
+  p28 : Right 28 m28 (Instr.New 2 0 3 0)
+  p28 = m 28 m28 (Instr.New 2 0 3 0) refl (refl, vacant m28 2 (sym refs_m) (omega arith) refl, (the_private, (λ e. omega arith), omega arith, refl, omega arith, (λ i. no_pointer (i % cells_of the_targets 1)), (λ h. h), less_refl m29)) s28
 
-  p29 : Right 29 m29 (MoveReference 0 2)
-  p29 = m 29 m29 (MoveReference 0 2) refl (refl, inr (vacant m29 0 (sym refs_m) (omega arith) refl, (let b = refs_m in omega arith), (λ e. omega arith), free_by m29 2 s29.free, (λ h. h), less_refl m30)) s29
+  p29 : Right 29 m29 (Instr.MoveReference 0 2)
+  p29 = m 29 m29 (Instr.MoveReference 0 2) refl (refl, inr (vacant m29 0 (sym refs_m) (omega arith) refl, (let b = refs_m in omega arith), (λ e. omega arith), free_by m29 2 s29.free, (λ h. h), less_refl m30)) s29
 
-  p30 : Right 30 m30 (TakeLocal 2 0 0)
-  p30 = m 30 m30 (TakeLocal 2 0 0) refl (refl, vacant m30 2 (sym refs_m) (omega arith) refl, (let b = refs_m in omega arith), (λ e. omega arith), free_by m30 0 s30.free, (λ h. h), less_refl m31) s30
+  p30 : Right 30 m30 (Instr.TakeLocal 2 0 0)
+  p30 = m 30 m30 (Instr.TakeLocal 2 0 0) refl (refl, vacant m30 2 (sym refs_m) (omega arith) refl, (let b = refs_m in omega arith), (λ e. omega arith), free_by m30 0 s30.free, (λ h. h), less_refl m31) s30
 
-  p31 : Right 31 m31 (JumpIfNull 2 35)
-  p31 = m 31 m31 (JumpIfNull 2 35) refl (refl, inr (free_by m31 2 s31.free, null_less), less_refl m32) s31
+  p31 : Right 31 m31 (Instr.JumpIfNull 2 35)
+  p31 = m 31 m31 (Instr.JumpIfNull 2 35) refl (refl, inr (free_by m31 2 s31.free, null_less), less_refl m32) s31
 
-  p32 : Right 32 m32 (TestSole 2 0)
-  p32 = m 32 m32 (TestSole 2 0) refl (refl, (let b = refs_m in omega arith), refl, less_refl m33) s32
+  p32 : Right 32 m32 (Instr.TestSole 2 0)
+  p32 = m 32 m32 (Instr.TestSole 2 0) refl (refl, (let b = refs_m in omega arith), refl, less_refl m33) s32
 
-  p33 : Right 33 m33 (Clear 2 3)
-  p33 = m 33 m33 (Clear 2 3) refl (refl, (λ p h e. absurd h), (the_private, refl, refl, less_refl m34)) s33
+  p33 : Right 33 m33 (Instr.Clear 2 3)
+  p33 = m 33 m33 (Instr.Clear 2 3) refl (refl, (λ p h e. absurd h), (the_private, refl, refl, less_refl m34)) s33
 
-  p34 : Right 34 m34 (Give 2 0)
-  p34 = m 34 m34 (Give 2 0) refl (refl, free_by m34 2 s34.free, (the_private, the_dynamic, refl, record { some = λ e. omega arith; is_row = omega arith; cells = refl; same = recast_same }, (λ h. h), given_less)) s34
+  p34 : Right 34 m34 (Instr.Give 2 0)
+  p34 = m 34 m34 (Instr.Give 2 0) refl (refl, free_by m34 2 s34.free, (the_private, the_dynamic, refl, record { some = λ e. omega arith; is_row = omega arith; cells = refl; same = recast_same }, (λ h. h), given_less)) s34
 
-  p35 : Right 35 m35 (MoveReference 1 2)
-  p35 = m 35 m35 (MoveReference 1 2) refl (refl, inr (vacant m35 1 (sym refs_m) (omega arith) refl, (let b = refs_m in omega arith), (λ e. omega arith), free_by m35 2 s35.free, (λ h. h), less_refl m36)) s35
+  p35 : Right 35 m35 (Instr.MoveReference 1 2)
+  p35 = m 35 m35 (Instr.MoveReference 1 2) refl (refl, inr (vacant m35 1 (sym refs_m) (omega arith) refl, (let b = refs_m in omega arith), (λ e. omega arith), free_by m35 2 s35.free, (λ h. h), less_refl m36)) s35
 
-  p36 : Right 36 m36 (Raise 2 1)
-  p36 = m 36 m36 (Raise 2 1) refl (refl, vacant m36 2 (sym refs_m) (omega arith) refl, (let b = refs_m in omega arith), less_refl m37) s36
+  p36 : Right 36 m36 (Instr.Raise 2 1)
+  p36 = m 36 m36 (Instr.Raise 2 1) refl (refl, vacant m36 2 (sym refs_m) (omega arith) refl, (let b = refs_m in omega arith), less_refl m37) s36
 
-  p37 : Right 37 m37 (Spawn 1 1 (Register.Reference 2) 0)
-  p37 = m 37 m37 (Spawn 1 1 (Register.Reference 2) 0) refl (refl, (let b = ints_m in omega arith), (let b = is.number in omega arith), refl, refl, (is.parameters.1, (let b = refs_m in omega arith), free_by m37 2 s37.free, (λ q h. h), (refl, tt), refl), less_refl m38) s37
+  p37 : Right 37 m37 (Instr.Spawn 1 1 (Register.Reference 2) 0)
+  p37 = m 37 m37 (Instr.Spawn 1 1 (Register.Reference 2) 0) refl (refl, (let b = ints_m in omega arith), (let b = is.number in omega arith), refl, refl, (is.parameters.1, (let b = refs_m in omega arith), free_by m37 2 s37.free, (λ q h. h), (refl, tt), refl), less_refl m38) s37
 
-  p38 : Right 38 m38 (Lower 1)
-  p38 = m 38 m38 (Lower 1) refl (refl, (let b = refs_m in omega arith), inl (free_by m38 1 s38.free, less_refl m39)) s38
+  p38 : Right 38 m38 (Instr.Lower 1)
+  p38 = m 38 m38 (Instr.Lower 1) refl (refl, (let b = refs_m in omega arith), inl (free_by m38 1 s38.free, less_refl m39)) s38
 
-  p39 : Right 39 m39 (Lower 0)
-  p39 = m 39 m39 (Lower 0) refl (refl, (let b = refs_m in omega arith), inl (free_by m39 0 s39.free, less_refl m40)) s39
+  p39 : Right 39 m39 (Instr.Lower 0)
+  p39 = m 39 m39 (Instr.Lower 0) refl (refl, (let b = refs_m in omega arith), inl (free_by m39 0 s39.free, less_refl m40)) s39
 
-  p40 : Right 40 m40 (Constant 0 (pos 0))
-  p40 = m 40 m40 (Constant 0 (pos 0)) refl (refl, (let b = ints_m in omega arith), less_refl m41) s40
+  p40 : Right 40 m40 (Instr.Constant 0 (pos 0))
+  p40 = m 40 m40 (Instr.Constant 0 (pos 0)) refl (refl, (let b = ints_m in omega arith), less_refl m41) s40
 
   p41 : Right 41 m41 (Return 0)
   p41 = m 41 m41 (Return 0) refl (refl, (0, refl, record { result = refl; result_int = tt; empty = gone41 })) s41
@@ -413,7 +413,7 @@ module _ (code : Code) (is : IsSample code) where
   places = (((refl, refl, less_refl outside), out, λ _. inl refl), (((refl, refl, refl), out, λ _. inr refl), (p2, (p3, (p4, (p5, (p6, (p7, (p8, (p9, (p10, (p11, (p12, (p13, (p14, (p15, (p16, (p17, (p18, (p19, (p20, (p21, (p22, (p23, (p24, (p25, (p26, (p27, (p28, (p29, (p30, (p31, (p32, (p33, (p34, (p35, (p36, (p37, (p38, (p39, (p40, (p41, tt))))))))))))))))))))))))))))))))))))))))))
 
   all_places : (pc : ℕ) → Right pc (the_labels.at pc) (instr_at code pc)
-  all_places pc = subst (λ instrs. Right pc (the_labels.at pc) (slice_index_or instrs pc Exit)) (sym is.instrs)
+  all_places pc = subst (λ instrs. Right pc (the_labels.at pc) (slice_index_or instrs pc Instr.Exit)) (sym is.instrs)
       (each Right 0 the_labels_list the_instrs places (λ k. ((refl, refl, refl), out, λ _. inr refl)) pc pc (omega arith))
 
   -- ---- the targets
@@ -537,8 +537,8 @@ module _ (code : Code) (is : IsSample code) where
     main = ap the_labels.starts is.main;
     main_is = (let e = is.main in omega arith);
     main_number = ap (λ f. (the_labels.signature f).takes_ints 0) is.main;
-    begin = (0, ap (λ instrs. slice_index_or instrs 0 Exit) is.instrs);
+    begin = (0, ap (λ instrs. slice_index_or instrs 0 Instr.Exit) is.instrs);
     placed = λ pc. (all_places pc).2;
     first = (refl, refl, refl);
-    second = ap (λ instrs. slice_index_or instrs 1 Exit) is.instrs;
+    second = ap (λ instrs. slice_index_or instrs 1 Instr.Exit) is.instrs;
   }

@@ -1,5 +1,5 @@
 -- What a test of a sole reference finds.
-use Rattle.sharc_invariant.proofs.{Imports.{◌≡◌, ℕ, zero, suc, ◌+◌, ◌≤◌, ◌≢◌, Bool, true, false, refl, sym, ap, ◌∙◌, subst, arith, slice_index, ◌==◌, if◌then◌else◌, test_of, Code, TestSole, Shape, Stop, NotSole, count_word, Machine, act, instr_at, goes, stopped, tested, ref, may_go, Turn, Global, at, MayTurn, after_turn, result_of, one_thread, bounds, put_same, Targets, Labels, IsWellTyped, World, RegisterOf, In, in_ref, lang_of, first_place, State, size_of_run, references_to, TestStands, RunsTest, RunsFromTheBeginning, eq_refl}, Effects.count_pos, Own.{rests, top, fine}, Plain.register_plain, Counts.count_is, Turns.asks_turn, BitTurns.found_at, Stands.count_stands}
+use Rattle.sharc_invariant.proofs.{Imports.{◌≡◌, ℕ, zero, suc, ◌+◌, ◌≤◌, ◌≢◌, Bool, true, false, refl, sym, ap, ◌∙◌, subst, arith, slice_index, ◌==◌, if◌then◌else◌, test_of, Code, Instr, Shape, Stop, NotSole, count_word, Machine, act, instr_at, goes, stopped, tested, ref, may_go, Turn, Global, at, MayTurn, after_turn, result_of, one_thread, bounds, put_same, Targets, Labels, IsWellTyped, World, RegisterOf, In, in_ref, lang_of, first_place, State, size_of_run, references_to, TestStands, RunsTest, RunsFromTheBeginning, eq_refl}, Effects.count_pos, Own.{rests, top, fine}, Plain.register_plain, Counts.count_is, Turns.asks_turn, BitTurns.found_at, Stands.count_stands}
 
 more_than_one : (n : ℕ) → 1 ≤ n → n ≢ 1 → 2 ≤ n
 more_than_one zero le ne = absurd (omega (arith, le))
@@ -11,12 +11,12 @@ goes_at_one m stop true = refl
 goes_at_one m stop false = refl
 
 test_stands : (x : Targets) (code : Code) (s : Shape) (ls : Labels) (wt : IsWellTyped x code ls) (g : Global Machine) (world : World) (st : State x code s ls g world) (tr : Turn) (may : MayTurn bounds (one_thread code s) g tr)
-    (r site : ℕ) → instr_at code (g.threads tr.thread).at.pc ≡ TestSole r site
+    (r site : ℕ) → instr_at code (g.threads tr.thread).at.pc ≡ Instr.TestSole r site
     → TestStands (result_of tr.event) (references_to x code s g world.obj (ref (g.threads tr.thread) r)) (may_go ((after_turn bounds (one_thread code s) g tr).threads tr.thread).at.state)
 test_stands x code s ls wt g world st tr may r site is =
     let t = tr.thread in
     let m = g.threads t in
-    let i = TestSole r site in
+    let i = Instr.TestSole r site in
     let on = may.started in
     let go = may.next.runs in
     let k = m.at.refs + r in

@@ -13,11 +13,7 @@ use Rattle.sharc_lemmas.proofs.Bools.{or_false as or_none, and_false as and_none
 -- ---- keys
 
 pub turned : (n m : ℕ) → (n == m) ≡ (m == n)
-turned n m = by_case (cases_eq n m)
-  where
-    by_case : (n ≡ m) ⊎ (n ≡ m → ⊥) → (n == m) ≡ (m == n)
-    by_case (inl e) = eq-eqb n m e ∙ sym (eq-eqb m n (sym e))
-    by_case (inr e) = ne_eqb n m e ∙ sym (ne_eqb m n (λ k. e (sym k)))
+turned n m = elim (cases_eq n m) [ inl e ↦ eq-eqb n m e ∙ sym (eq-eqb m n (sym e)) | inr e ↦ ne_eqb n m e ∙ sym (ne_eqb m n (λ k. e (sym k))) ]
 
 pub same_objects : (o p : Object) → object_eq.ghosts.eq (object_key o) (object_key p) ≡ same_object p o
 same_objects (Global n) (Global m) = turned n m
@@ -52,10 +48,7 @@ is_access_of c (Some a) = same_cell c a.cell
 
 changing_access : (c d : CellAt) (mode : CellMode) → list_any (λ x. same_topic x (topic.Access (cell_key c))) (changing d mode) ≡ same_cell c d
 changing_access c d Private = one (same_cells d c)
-changing_access c d Readonly = one (same_cells d c)
-changing_access c d (Locked m) = one (same_cells d c)
-changing_access c d Racy = one (same_cells d c)
-changing_access c d Dynamic = one (same_cells d c)
+changing_access c d _ = one (same_cells d c)
 
 pub about_access : (c : CellAt) (e : SourceEvent) (a : Act) → says (topic.Access (cell_key c)) e a ≡ is_access_of c (access_by a)
 about_access c e (acts.Read d mode) = one (same_cells d c)
@@ -65,10 +58,7 @@ about_access c e _ = refl
 
 changing_change : (c d : CellAt) (mode : CellMode) → list_any (λ x. same_topic x (topic.Change (cell_key c))) (changing d mode) ≡ same_cell c d
 changing_change c d Private = one (same_cells d c)
-changing_change c d Readonly = one (same_cells d c)
-changing_change c d (Locked m) = one (same_cells d c)
-changing_change c d Racy = one (same_cells d c)
-changing_change c d Dynamic = one (same_cells d c)
+changing_change c d _ = one (same_cells d c)
 
 pub about_change : (c : CellAt) (e : SourceEvent) (a : Act) → says (topic.Change (cell_key c)) e a ≡ is_cell c (cell_changed a)
 about_change c e (acts.Write d mode v) = changing_change c d mode
@@ -76,11 +66,8 @@ about_change c e (acts.Take (Cell d mode) kind) = changing_change c d mode
 about_change c e _ = refl
 
 changing_shared : (q : GranuleKey) (d : CellAt) (mode : CellMode) → list_any (λ x. same_topic x (topic.SharedWrite q)) (changing d mode) ≡ (is_dynamic mode && same_granule (granule_key d) q) && true
-changing_shared q d Private = refl
-changing_shared q d Readonly = refl
-changing_shared q d (Locked m) = refl
-changing_shared q d Racy = refl
 changing_shared q d Dynamic = one (sym (and_all (same_granule (granule_key d) q)))
+changing_shared q d _ = refl
 
 pub about_shared : (q : GranuleKey) (e : SourceEvent) (a : Act) → says (topic.SharedWrite q) e a ≡ (is_shared q (access_by a) && is_write (access_by a))
 about_shared q e (acts.Read d mode) = sym (and_none (is_dynamic mode && same_granule (granule_key d) q))
@@ -91,11 +78,8 @@ about_shared q e _ = refl
 -- a topic that is of no cell
 quiet : (t : Topic) (d : CellAt) (mode : CellMode) → ((k : CellKey) → same_topic (topic.Access k) t ≡ false) → ((k : CellKey) → same_topic (topic.Change k) t ≡ false) → ((k : GranuleKey) → same_topic (topic.SharedWrite k) t ≡ false)
     → list_any (λ x. same_topic x t) (changing d mode) ≡ false
-quiet t d Private h k s = or_from _ _ (h (cell_key d)) (or_from _ _ (k (cell_key d)) refl)
-quiet t d Readonly h k s = or_from _ _ (h (cell_key d)) (or_from _ _ (k (cell_key d)) refl)
-quiet t d (Locked m) h k s = or_from _ _ (h (cell_key d)) (or_from _ _ (k (cell_key d)) refl)
-quiet t d Racy h k s = or_from _ _ (h (cell_key d)) (or_from _ _ (k (cell_key d)) refl)
 quiet t d Dynamic h k s = or_from _ _ (h (cell_key d)) (or_from _ _ (k (cell_key d)) (or_from _ _ (s (granule_key d)) refl))
+quiet t d _ h k s = or_from _ _ (h (cell_key d)) (or_from _ _ (k (cell_key d)) refl)
 
 -- ---- objects
 

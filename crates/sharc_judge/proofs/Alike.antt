@@ -43,33 +43,11 @@ equal_modes Readonly Readonly e = refl
 equal_modes (Locked c) (Locked d) e = ap Locked (equal_mutexes c d e)
 equal_modes Racy Racy e = refl
 equal_modes Dynamic Dynamic e = refl
-equal_modes Private Readonly e = absurd (cc)
-equal_modes Private (Locked d) e = absurd (cc)
-equal_modes Private Racy e = absurd (cc)
-equal_modes Private Dynamic e = absurd (cc)
-equal_modes Readonly Private e = absurd (cc)
-equal_modes Readonly (Locked d) e = absurd (cc)
-equal_modes Readonly Racy e = absurd (cc)
-equal_modes Readonly Dynamic e = absurd (cc)
-equal_modes (Locked c) Private e = absurd (cc)
-equal_modes (Locked c) Readonly e = absurd (cc)
-equal_modes (Locked c) Racy e = absurd (cc)
-equal_modes (Locked c) Dynamic e = absurd (cc)
-equal_modes Racy Private e = absurd (cc)
-equal_modes Racy Readonly e = absurd (cc)
-equal_modes Racy (Locked d) e = absurd (cc)
-equal_modes Racy Dynamic e = absurd (cc)
-equal_modes Dynamic Private e = absurd (cc)
-equal_modes Dynamic Readonly e = absurd (cc)
-equal_modes Dynamic (Locked d) e = absurd (cc)
-equal_modes Dynamic Racy e = absurd (cc)
+equal_modes _ _ e = absurd (cc)
 
 pub same_mode_itself : (a : CellMode) → same_mode a a ≡ true
-same_mode_itself Private = refl
-same_mode_itself Readonly = refl
 same_mode_itself (Locked c) = same_mutex_itself c
-same_mode_itself Racy = refl
-same_mode_itself Dynamic = refl
+same_mode_itself _ = refl
 
 pub objects : EqualObjects
 objects a b = (equal_objects a b, λ e. subst (λ z. same_object a z ≡ true) e (same_as_itself a))

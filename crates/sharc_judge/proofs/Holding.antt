@@ -49,11 +49,7 @@ module _ (c : CellAt) (t : ℕ) (R : List SourceEvent) where
       by_lock false i = i ∙ sym (from_each_pair q R (λ b d after is. each b d after is (in_order R b d after s.before noted.event s.after is s.stands)))
         where
           released : unlocks c noted.event ≡ true
-          released = by_case (or_cases (locks c noted.event) (unlocks c noted.event) parts.1)
-            where
-              by_case : (locks c noted.event ≡ true) ⊎ (unlocks c noted.event ≡ true) → unlocks c noted.event ≡ true
-              by_case (inl j) = absurd (both_ways _ i j)
-              by_case (inr j) = j
+          released = elim (or_cases (locks c noted.event) (unlocks c noted.event) parts.1) [ inl j ↦ absurd (both_ways _ i j) | inr j ↦ j ]
 
           each : (b : List SourceEvent) (d : SourceEvent) (after : List SourceEvent) → Stands R b d after → Order b d after s.before noted.event s.after → q d after ≡ false
           each b d after is (inl o) = and_left _ _ (and_right _ _ (ap (locks c) o.event ∙ i))

@@ -96,11 +96,7 @@ from_some test n f (e ∷ l) noted h = by_rest (from_some test (n + 1) (if test 
     by_rest (inr s) = inr (record { before = e ∷ s.before; after = s.after; stands = ap (λ z. e ∷ z) s.stands; place = (let p = s.place in omega (arith, p)); meets = s.meets; none = s.none })
 
 pub last_stands : (test : SourceEvent → Bool) (l : List SourceEvent) (noted : Noted) → latest_at test l ≡ Some noted → IsLast test 0 l noted
-last_stands test l noted h = by_case (from_some test 0 None l noted h)
-  where
-    by_case : ((None ≡ Some noted) × (list_any test l ≡ false)) ⊎ IsLast test 0 l noted → IsLast test 0 l noted
-    by_case (inl k) = absurd (let z = k.0 in cc)
-    by_case (inr s) = s
+last_stands test l noted h = elim (from_some test 0 None l noted h) [ inl k ↦ absurd (let z = k.0 in cc) | inr s ↦ s ]
 
 pub any_is : (test : SourceEvent → Bool) (l : List SourceEvent) → is_some (latest_at test l) ≡ list_any test l
 any_is test l = by_case (latest_at test l) refl

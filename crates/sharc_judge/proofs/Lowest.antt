@@ -13,11 +13,7 @@ kept_by h e = h.0 e
 module _ (R : List SourceEvent) (until : Until) where
   below_2 : (h1 : Holds R until Live) (other : Rule) → number other < 2 → Holds R until other
   below_2 h1 Live less = h1
-  below_2 h1 OneMode less = absurd (omega (arith, less))
-  below_2 h1 Owner less = absurd (omega (arith, less))
-  below_2 h1 NotWritten less = absurd (omega (arith, less))
-  below_2 h1 UnderItsLock less = absurd (omega (arith, less))
-  below_2 h1 ReadSharedOrOneThread less = absurd (omega (arith, less))
+  below_2 h1 _ less = absurd (omega (arith, less))
 
   pub lowest_2 : Holds R until Live → (Holds R until OneMode → ⊥) → IsLowestBroken R until OneMode
   lowest_2 h1 broken = record { broken = broken; lower = below_2 h1 }
@@ -25,10 +21,7 @@ module _ (R : List SourceEvent) (until : Until) where
   below_3 : (h1 : Holds R until Live) (h2 : Holds R until OneMode) (other : Rule) → number other < 3 → Holds R until other
   below_3 h1 h2 Live less = h1
   below_3 h1 h2 OneMode less = h2
-  below_3 h1 h2 Owner less = absurd (omega (arith, less))
-  below_3 h1 h2 NotWritten less = absurd (omega (arith, less))
-  below_3 h1 h2 UnderItsLock less = absurd (omega (arith, less))
-  below_3 h1 h2 ReadSharedOrOneThread less = absurd (omega (arith, less))
+  below_3 h1 h2 _ less = absurd (omega (arith, less))
 
   pub lowest_3 : Holds R until Live → Holds R until OneMode → (Holds R until Owner → ⊥) → IsLowestBroken R until Owner
   lowest_3 h1 h2 broken = record { broken = broken; lower = below_3 h1 h2 }
@@ -37,9 +30,7 @@ module _ (R : List SourceEvent) (until : Until) where
   below_4 h1 h2 h3 Live less = h1
   below_4 h1 h2 h3 OneMode less = h2
   below_4 h1 h2 h3 Owner less = h3
-  below_4 h1 h2 h3 NotWritten less = absurd (omega (arith, less))
-  below_4 h1 h2 h3 UnderItsLock less = absurd (omega (arith, less))
-  below_4 h1 h2 h3 ReadSharedOrOneThread less = absurd (omega (arith, less))
+  below_4 h1 h2 h3 _ less = absurd (omega (arith, less))
 
   pub lowest_4 : Holds R until Live → Holds R until OneMode → Holds R until Owner → (Holds R until NotWritten → ⊥) → IsLowestBroken R until NotWritten
   lowest_4 h1 h2 h3 broken = record { broken = broken; lower = below_4 h1 h2 h3 }
@@ -49,8 +40,7 @@ module _ (R : List SourceEvent) (until : Until) where
   below_5 h1 h2 h3 h4 OneMode less = h2
   below_5 h1 h2 h3 h4 Owner less = h3
   below_5 h1 h2 h3 h4 NotWritten less = h4
-  below_5 h1 h2 h3 h4 UnderItsLock less = absurd (omega (arith, less))
-  below_5 h1 h2 h3 h4 ReadSharedOrOneThread less = absurd (omega (arith, less))
+  below_5 h1 h2 h3 h4 _ less = absurd (omega (arith, less))
 
   pub lowest_5 : Holds R until Live → Holds R until OneMode → Holds R until Owner → Holds R until NotWritten → (Holds R until UnderItsLock → ⊥) → IsLowestBroken R until UnderItsLock
   lowest_5 h1 h2 h3 h4 broken = record { broken = broken; lower = below_5 h1 h2 h3 h4 }

@@ -50,11 +50,10 @@ module _ (laws : SameLaws) (a : CellAccess) (R : List SourceEvent) (unbroken : U
           cells = (laws.cells a.cell b.cell).0 (sym (ap (is_access_of a.cell) i) ∙ own)
 
           modes : b.mode ≡ a.mode
-          modes = by_case (and_cases (same_cell b.cell a.cell) (not (same_mode b.mode a.mode)) (sym (ap (disagrees (view_access a)) i) ∙ same))
-            where
-              by_case : (same_cell b.cell a.cell ≡ false) ⊎ (not (same_mode b.mode a.mode) ≡ false) → b.mode ≡ a.mode
-              by_case (inl j) = absurd (both_ways (same_cell b.cell a.cell) j ((laws.cells b.cell a.cell).1 (sym cells)))
-              by_case (inr j) = (laws.modes b.mode a.mode).0 (not-false (same_mode b.mode a.mode) j)
+          modes = elim (and_cases (same_cell b.cell a.cell) (not (same_mode b.mode a.mode)) (sym (ap (disagrees (view_access a)) i) ∙ same)) [
+            | inl j ↦ absurd (both_ways (same_cell b.cell a.cell) j ((laws.cells b.cell a.cell).1 (sym cells)))
+            | inr j ↦ (laws.modes b.mode a.mode).0 (not-false (same_mode b.mode a.mode) j)
+          ]
 
           quiet_b : list_any (test_of (test.BeginsOrFrees b.cell.object)) between ≡ false
           quiet_b = subst (λ (c : CellAt). list_any (test_of (test.BeginsOrFrees c.object)) between ≡ false) cells quiet
@@ -63,11 +62,10 @@ module _ (laws : SameLaws) (a : CellAccess) (R : List SourceEvent) (unbroken : U
           pair_b = at_each_pair (pair_of (pair.OtherMode (of_access b))) (before ++ d ∷ between) (old b i) before d between refl
 
           agrees_b : disagrees b (access_by d.act) ≡ false
-          agrees_b = by_case (and_cases (disagrees b (access_by d.act)) (not (list_any (test_of (test.BeginsOrFrees b.cell.object)) between)) pair_b)
-            where
-              by_case : (disagrees b (access_by d.act) ≡ false) ⊎ (not (list_any (test_of (test.BeginsOrFrees b.cell.object)) between) ≡ false) → disagrees b (access_by d.act) ≡ false
-              by_case (inl j) = j
-              by_case (inr j) = absurd (both_ways _ j (not_from_false _ quiet_b))
+          agrees_b = elim (and_cases (disagrees b (access_by d.act)) (not (list_any (test_of (test.BeginsOrFrees b.cell.object)) between)) pair_b) [
+            | inl j ↦ j
+            | inr j ↦ absurd (both_ways _ j (not_from_false _ quiet_b))
+          ]
 
           by_earlier : (o : Option Access) → access_by d.act ≡ o → disagrees (view_access a) (access_by d.act) ≡ false
           by_earlier None j = ap (disagrees (view_access a)) j
@@ -99,11 +97,7 @@ module _ (laws : SameLaws) (a : CellAccess) (R : List SourceEvent) (unbroken : U
           by_quiet false i = and_left (disagrees (view_access a) (access_by d.act)) _ (by_order (in_order R b d after s.before noted.event s.after is s.stands))
             where
               later_agrees : list_any again s.after ≡ false → disagrees (view_access a) (access_by noted.event.act) ≡ false
-              later_agrees j = by_case (and_cases _ _ k)
-                where
-                  by_case : (disagrees (view_access a) (access_by noted.event.act) ≡ false) ⊎ (is_behind noted.place (latest_at again R) ≡ false) → disagrees (view_access a) (access_by noted.event.act) ≡ false
-                  by_case (inl l) = l
-                  by_case (inr l) = absurd (both_ways _ (sym behind ∙ l) (not_from_false _ j))
+              later_agrees j = elim (and_cases _ _ k) [ inl l ↦ l | inr l ↦ absurd (both_ways _ (sym behind ∙ l) (not_from_false _ j)) ]
 
               by_order : Order b d after s.before noted.event s.after → disagrees (view_access a) (access_by d.act) ≡ false
               by_order (inl o) = ap (λ (z : SourceEvent). disagrees (view_access a) (access_by z.act)) o.event ∙ later_agrees (subst (λ z. list_any again z ≡ false) o.after i)

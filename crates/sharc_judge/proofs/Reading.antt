@@ -33,11 +33,7 @@ module _ (q : GranuleKey) (f : Noted → Bool) where
 
       by_added : (list_any f reads ≡ true) ⊎ ((f (noted_at n e) || false) ≡ true) → (list_any f reads ≡ true) ⊎ IsRead n (e ∷ l)
       by_added (inl k) = inl k
-      by_added (inr k) = by_one (or_cases (f (noted_at n e)) false k)
-        where
-          by_one : (f (noted_at n e) ≡ true) ⊎ (false ≡ true) → (list_any f reads ≡ true) ⊎ IsRead n (e ∷ l)
-          by_one (inl m) = inr (here m)
-          by_one (inr m) = absurd (cc)
+      by_added (inr k) = elim (or_cases (f (noted_at n e)) false k) [ inl m ↦ inr (here m) | inr m ↦ absurd (cc) ]
 
       by_write : (w : Bool) → list_any f (with_shared w (noted_at n e) reads) ≡ true → (list_any f reads ≡ true) ⊎ IsRead n (e ∷ l)
       by_write true k = absurd (cc)

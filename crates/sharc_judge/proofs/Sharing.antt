@@ -15,11 +15,8 @@ last_begin_is (Global g) R = sym (latest_never (test_of (test.Begins (Global g))
 last_begin_is (Made n) R = latest_same _ (test_of (test.Begins (Made n))) R (λ e. about_begin n e e.act)
 
 dynamic_is : (mode : CellMode) → is_dynamic mode ≡ true → mode ≡ Dynamic
-dynamic_is Private h = absurd (cc)
-dynamic_is Readonly h = absurd (cc)
-dynamic_is (Locked m) h = absurd (cc)
-dynamic_is Racy h = absurd (cc)
 dynamic_is Dynamic h = refl
+dynamic_is _ h = absurd (cc)
 
 all_true : (b : Bool) → (b && (true && true)) ≡ b
 all_true true = refl
@@ -65,11 +62,10 @@ module _ (laws : SameLaws) (t : ℕ) (a : CellAccess) (R : List SourceEvent) (un
       pair_found q R s.before noted.event s.after s.stands (sym (against_is s.before noted.event s.after noted.place (let p = s.place in omega (arith, p)) s.stands) ∙ k)
 
   found_read : list_any against (reads_of key R) ≡ true → any_pair q R ≡ true
-  found_read h = by_case (read_found key against 0 [] R h)
-    where
-      by_case : (list_any against [] ≡ true) ⊎ IsRead key against 0 R → any_pair q R ≡ true
-      by_case (inl k) = absurd (cc)
-      by_case (inr s) = pair_found q R s.before s.event s.after s.stands (sym (against_is s.before s.event s.after (0 + length s.before) (omega arith) s.stands) ∙ s.meets)
+  found_read h = elim (read_found key against 0 [] R h) [
+    | inl k ↦ absurd (cc)
+    | inr s ↦ pair_found q R s.before s.event s.after s.stands (sym (against_is s.before s.event s.after (0 + length s.before) (omega arith) s.stands) ∙ s.meets)
+  ]
 
   -- ---- what is there is found
 
@@ -124,18 +120,10 @@ module _ (laws : SameLaws) (t : ℕ) (a : CellAccess) (R : List SourceEvent) (un
       (read_is_there key against R before d after stands (shared_by d after c) read quiet (against_is before d after (length before) refl stands ∙ h)))
     where
       read : is_write (access_by d.act) ≡ false
-      read = by_case (and_cases (is_shared key (access_by d.act)) (is_write (access_by d.act)) own)
-        where
-          by_case : (is_shared key (access_by d.act) ≡ false) ⊎ (is_write (access_by d.act) ≡ false) → is_write (access_by d.act) ≡ false
-          by_case (inl i) = absurd (both_ways _ i (shared_by d after c))
-          by_case (inr i) = i
+      read = elim (and_cases (is_shared key (access_by d.act)) (is_write (access_by d.act)) own) [ inl i ↦ absurd (both_ways _ i (shared_by d after c)) | inr i ↦ i ]
 
       this : a.is_write ≡ true
-      this = by_case (or_cases c.access.is_write a.is_write c.written)
-        where
-          by_case : (c.access.is_write ≡ true) ⊎ (a.is_write ≡ true) → a.is_write ≡ true
-          by_case (inl i) = absurd (both_ways _ (sym (ap is_write c.is) ∙ read) i)
-          by_case (inr i) = i
+      this = elim (or_cases c.access.is_write a.is_write c.written) [ inl i ↦ absurd (both_ways _ (sym (ap is_write c.is) ∙ read) i) | inr i ↦ i ]
 
   -- an access before the last write that counts still is by the thread of that write
   module _ (noted : Noted) (s : IsLast (writes key against) 0 R noted) (b : List SourceEvent) (d : SourceEvent) (after : List SourceEvent) (c : Conflict d after) (o : Behind b d after s.before noted.event s.after) where

@@ -128,7 +128,6 @@ value_of initial (Some noted) make = if is_behind noted.place make then value_le
 
 made_value : (r : Resolution) (o : Object) (e : SourceEvent) (a : Act) → e.act ≡ a → makes o (record e { act = a }) ≡ true → value_left a ≡ initial_value r o
 made_value r (Global g) e a is h = absurd (cc)
-made_value r (Made n) e (acts.New cells elements mode) is h = refl
 made_value r (Made n) e (acts.Write c mode v) is h = absurd (cc)
 made_value r (Made n) e _ is h = refl
 

@@ -1,5 +1,5 @@
 -- A rule of the modes holds exactly where no access breaks it.
-use Rattle.std.proofs.{Common.{◌≡◌, ◌≢◌, ◌↔◌, ◌⊎◌, inl, inr, ℕ, ◌==◌, Bool, true, false, not, ◌&&◌, ◌||◌, List, [], ◌∷◌, ◌++◌, Option, Some, None, refl, ap, sym, subst, ◌∙◌, append_assoc}, lemmas.Bool.{not-true, not-false, not_from_true, not_from_false, both_ways, and_parts, and_from, and_cases, and_left, and_right, or_parts, or_from, eqb-true, eq-eqb, ne_eqb, false_from_ne_true as no_conflict}, lemmas.List.Folds.list_any-append}
+use Rattle.std.proofs.{Common.{◌≡◌, ◌≢◌, ◌↔◌, ◌⊎◌, inl, inr, ℕ, ◌==◌, Bool, true, false, not, ◌&&◌, ◌||◌, List, [], ◌∷◌, ◌++◌, Option, Some, None, refl, ap, sym, subst, ◌∙◌, append_assoc}, lemmas.Bool.{cases_Bool, not-true, not-false, not_from_true, not_from_false, both_ways, and_parts, and_from, and_cases, and_left, and_right, or_parts, or_from, eqb-true, eq-eqb, ne_eqb, false_from_ne_true as no_conflict}, lemmas.List.Folds.list_any-append}
 use Rattle.std.specs.List.{list_any}
 use Rattle.sharc_tree.specs.{declared.event.Act.Act, declared.event.Act.TheVariants.{Read, Write, New, Take, Give, Freed, Lock, Unlock, Spawn, Started, Join, Print, Return, Gone, Enter, Woken, Signal, Broadcast}, declared.event.CellAt.CellAt, declared.event.CellMode.CellMode, declared.event.CellMode.TheVariants.{Private, Readonly, Locked, Racy, Dynamic}, declared.event.Object.Object, declared.event.Object.TheVariants.{Global, Made}, declared.event.SourceEvent.SourceEvent}
 use Rattle.sharc_meaning.specs.{Events.{same_object, same_cell, granule_of, Access, access_by, begins, frees, locks, unlocks, unless_unlocked, locked_by, held_mutexes, holds_mutex, is_of, events_of, Stands}, Obeys.{IsAccess, AccessSet, ends, IsThere, ToLive, UnderOneMode, is_owner, ByOwner, Unwritten, UnderLock, ReadSharedOrOwn}}
@@ -8,7 +8,7 @@ use Rattle.sharc_judge.specs.declared.history.Test.TheVariants as test
 use Rattle.sharc_judge.specs.declared.pair.Pair.TheVariants as pair
 use Rattle.sharc_judge.specs.{declared.pair.Until.Until, declared.rule.Rule.Rule, Deciding.{view_until, same_mode, is_dynamic, test_of, any_place, any_pair, pair_of, disagrees, conflicts, is_there, not_by_owner, is_written, without_lock, beside, breaks, of_access, breaks_with, breaks_by}, Judged.Holds, Laws.{Unbroken, HoldsUnbroken}}
 use Rattle.sharc_judge.specs.declared.rule.Rule.TheVariants as rule
-use Rattle.sharc_judge.proofs.{Alike.{equal_objects, same_as_itself, equal_cells, same_cell_itself, equal_modes, same_mode_itself}, Pairs.{at_each, from_each, at_each_pair, from_each_pair, Behind, in_order}}
+use Rattle.sharc_judge.proofs.{Alike.{equal_objects, same_as_itself, equal_cells, same_cell_itself, equal_modes, same_mode_itself}, Pairs.{at_each, from_each}, PlacePairs.{at_each_pair, from_each_pair, Behind, Order, in_order}}
 
 unbroken : (rule : Rule) (u : Until) (R : List SourceEvent) → any_place (breaks_by rule u) [] R ≡ false → Unbroken rule u R
 unbroken rule u R h before e after a stands is = ap (breaks_with rule u before e.thread) (sym is) ∙ at_each (breaks_by rule u) [] R h before e after stands
@@ -50,60 +50,30 @@ plain e a is = record { begins_none = act_begins e.act is; ends_none = act_ends 
     act_begins (Write c m v) h (Made n) = refl
     act_begins (Take p k) h (Global g) = refl
     act_begins (Take p k) h (Made n) = refl
-    act_begins (New n k m) h o = absurd (cc)
-    act_begins (Give r m) h o = absurd (cc)
-    act_begins (Freed r) h o = absurd (cc)
-    act_begins (Lock c) h o = absurd (cc)
-    act_begins (Unlock c) h o = absurd (cc)
-    act_begins (Spawn f v) h o = absurd (cc)
-    act_begins (Started v) h o = absurd (cc)
-    act_begins (Join v) h o = absurd (cc)
-    act_begins (Print v) h o = absurd (cc)
-    act_begins Return h o = absurd (cc)
-    act_begins Gone h o = absurd (cc)
-    act_begins (Enter c) h o = absurd (cc)
-    act_begins (Woken c) h o = absurd (cc)
-    act_begins (Signal c) h o = absurd (cc)
-    act_begins (Broadcast c) h o = absurd (cc)
+    act_begins _ h o = absurd (cc)
 
     act_ends : (act : Act) → access_by act ≡ Some a → (u : obeys.Until) → ends u act ≡ false
-    act_ends Return h u = absurd (cc)
-    act_ends Gone h u = absurd (cc)
     act_ends (Read c m) h obeys.until_return = refl
     act_ends (Read c m) h obeys.until_gone = refl
     act_ends (Write c m v) h obeys.until_return = refl
     act_ends (Write c m v) h obeys.until_gone = refl
     act_ends (Take p k) h obeys.until_return = refl
     act_ends (Take p k) h obeys.until_gone = refl
-    act_ends (New n k m) h u = absurd (cc)
-    act_ends (Give r m) h u = absurd (cc)
-    act_ends (Freed r) h u = absurd (cc)
-    act_ends (Lock c) h u = absurd (cc)
-    act_ends (Unlock c) h u = absurd (cc)
-    act_ends (Spawn f v) h u = absurd (cc)
-    act_ends (Started v) h u = absurd (cc)
-    act_ends (Join v) h u = absurd (cc)
-    act_ends (Print v) h u = absurd (cc)
-    act_ends (Enter c) h u = absurd (cc)
-    act_ends (Woken c) h u = absurd (cc)
-    act_ends (Signal c) h u = absurd (cc)
-    act_ends (Broadcast c) h u = absurd (cc)
+    act_ends _ h u = absurd (cc)
 
 other_mode : (a b : Access) → disagrees b (Some a) ≡ false → a.cell ≡ b.cell → a.mode ≡ b.mode
-other_mode a b h e = by_cases (same_mode a.mode b.mode) refl
-  where
-    by_cases : (t : Bool) → same_mode a.mode b.mode ≡ t → a.mode ≡ b.mode
-    by_cases true i = equal_modes a.mode b.mode i
-    by_cases false i = absurd (both_ways _ h (and_from _ _ (subst (λ z. same_cell a.cell z ≡ true) e (same_cell_itself a.cell)) (not_from_false _ i)))
+other_mode a b h e = elim (cases_Bool (same_mode a.mode b.mode)) [
+  | inl i ↦ equal_modes a.mode b.mode i
+  | inr i ↦ absurd (both_ways _ h (and_from _ _ (subst (λ z. same_cell a.cell z ≡ true) e (same_cell_itself a.cell)) (not_from_false _ i)))
+]
 
 -- where the pair is not refused
 pair_agrees : (b a : Access) (d : SourceEvent) (between : List SourceEvent) → pair_of (pair.OtherMode (of_access b)) d between ≡ false → IsAccess d a → a.cell ≡ b.cell
     → list_any (λ x. begins a.cell.object x || frees a.cell.object x) between ≡ false → a.mode ≡ b.mode
-pair_agrees b a d between h is e quiet = by_cases (and_cases _ _ (sym (ap (λ z. disagrees b z && not (list_any (test_of (test.BeginsOrFrees b.cell.object)) between)) is) ∙ h))
-  where
-    by_cases : (disagrees b (Some a) ≡ false) ⊎ (not (list_any (test_of (test.BeginsOrFrees b.cell.object)) between) ≡ false) → a.mode ≡ b.mode
-    by_cases (inl i) = other_mode a b i e
-    by_cases (inr i) = absurd (both_ways _ (subst (λ (z : CellAt). list_any (λ x. begins z.object x || frees z.object x) between ≡ false) e quiet) (not-false _ i))
+pair_agrees b a d between h is e quiet = elim (and_cases _ _ (sym (ap (λ z. disagrees b z && not (list_any (test_of (test.BeginsOrFrees b.cell.object)) between)) is) ∙ h)) [
+  | inl i ↦ other_mode a b i e
+  | inr i ↦ absurd (both_ways _ (subst (λ (z : CellAt). list_any (λ x. begins z.object x || frees z.object x) between ≡ false) e quiet) (not-false _ i))
+]
 
 agrees_pair : (b : Access) (d : SourceEvent) (between : List SourceEvent)
     → ((a : Access) → IsAccess d a → a.cell ≡ b.cell → list_any (λ x. begins a.cell.object x || frees a.cell.object x) between ≡ false → a.mode ≡ b.mode)
@@ -139,17 +109,11 @@ one_mode_is u R = (
 
 owned : (m : CellMode) (before : List SourceEvent) (o : Object) (thread : ℕ) → not_by_owner m before o thread ≡ false → m ≡ Private → is_owner before o thread ≡ true
 owned Private before o thread h e = not-false _ h
-owned Readonly before o thread h e = absurd (cc)
-owned (Locked c) before o thread h e = absurd (cc)
-owned Racy before o thread h e = absurd (cc)
-owned Dynamic before o thread h e = absurd (cc)
+owned _ before o thread h e = absurd (cc)
 
 not_owned : (m : CellMode) (before : List SourceEvent) (o : Object) (thread : ℕ) → (m ≡ Private → is_owner before o thread ≡ true) → not_by_owner m before o thread ≡ false
 not_owned Private before o thread h = not_from_true _ (h refl)
-not_owned Readonly before o thread h = refl
-not_owned (Locked c) before o thread h = refl
-not_owned Racy before o thread h = refl
-not_owned Dynamic before o thread h = refl
+not_owned _ before o thread h = refl
 
 owner_is : (u : Until) (R : List SourceEvent) → Unbroken rule.Owner u R ↔ ByOwner R
 owner_is u R = (
@@ -159,17 +123,11 @@ owner_is u R = (
 
 unwritten : (m : CellMode) (w : Bool) → is_written m w ≡ false → m ≡ Readonly → w ≡ false
 unwritten Readonly w h e = h
-unwritten Private w h e = absurd (cc)
-unwritten (Locked c) w h e = absurd (cc)
-unwritten Racy w h e = absurd (cc)
-unwritten Dynamic w h e = absurd (cc)
+unwritten _ w h e = absurd (cc)
 
 not_written : (m : CellMode) (w : Bool) → (m ≡ Readonly → w ≡ false) → is_written m w ≡ false
 not_written Readonly w h = h refl
-not_written Private w h = refl
-not_written (Locked c) w h = refl
-not_written Racy w h = refl
-not_written Dynamic w h = refl
+not_written _ w h = refl
 
 unwritten_is : (u : Until) (R : List SourceEvent) → Unbroken rule.NotWritten u R ↔ Unwritten R
 unwritten_is u R = (λ h before e after a stands is m. unwritten a.mode a.is_write (h before e after a stands is) m, λ h before e after a stands is. not_written a.mode a.is_write (h before e after a stands is))
@@ -179,12 +137,7 @@ unwritten_is u R = (λ h before e after a stands is m. unwritten a.mode a.is_wri
 -- what is unlocked by none of the events of the thread is unlocked by none of all by this thread
 own_any : (c : CellAt) (thread : ℕ) (l : List SourceEvent) → list_any (unlocks c) (events_of thread l) ≡ list_any (test_of (test.Unlocks c thread)) l
 own_any c thread [] = refl
-own_any c thread (e ∷ l) = by_cases (own_any c thread l) (is_of thread e) refl
-  where
-    by_cases : list_any (unlocks c) (events_of thread l) ≡ list_any (test_of (test.Unlocks c thread)) l → (b : Bool) → is_of thread e ≡ b
-        → list_any (unlocks c) (events_of thread (e ∷ l)) ≡ list_any (test_of (test.Unlocks c thread)) (e ∷ l)
-    by_cases more true i = rw (i) (ap (λ z. unlocks c e || z) more)
-    by_cases more false i = rw (i) more
+own_any c thread (e ∷ l) = elim (cases_Bool (is_of thread e)) [ inl i ↦ rw (i) (ap (λ z. unlocks c e || z) (own_any c thread l)) | inr i ↦ rw (i) (own_any c thread l) ]
 
 -- a Lock of the mutex that no later event unlocks
 abbrev locks_on : CellAt → Option CellAt → List SourceEvent → Bool
@@ -222,19 +175,11 @@ held_is c thread (e ∷ l) = by_cases (held_is c thread l) (is_of thread e) refl
 
 under : (m : CellMode) (before : List SourceEvent) (thread : ℕ) → without_lock m before thread ≡ false → (c : CellAt) → m ≡ Locked (Some c) → holds_mutex (events_of thread before) c ≡ true
 under (Locked (Some d)) before thread h c e = let same : d ≡ c = cc in held_is c thread before ∙ subst (λ z. any_pair (pair_of (pair.Holds z thread)) before ≡ true) same (not-false _ h)
-under (Locked None) before thread h c e = absurd (cc)
-under Private before thread h c e = absurd (cc)
-under Readonly before thread h c e = absurd (cc)
-under Racy before thread h c e = absurd (cc)
-under Dynamic before thread h c e = absurd (cc)
+under _ before thread h c e = absurd (cc)
 
 is_under : (m : CellMode) (before : List SourceEvent) (thread : ℕ) → ((c : CellAt) → m ≡ Locked (Some c) → holds_mutex (events_of thread before) c ≡ true) → without_lock m before thread ≡ false
 is_under (Locked (Some d)) before thread h = not_from_true _ (sym (held_is d thread before) ∙ h d refl)
-is_under (Locked None) before thread h = refl
-is_under Private before thread h = refl
-is_under Readonly before thread h = refl
-is_under Racy before thread h = refl
-is_under Dynamic before thread h = refl
+is_under _ before thread h = refl
 
 under_lock_is : (u : Until) (R : List SourceEvent) → Unbroken rule.UnderItsLock u R ↔ UnderLock R
 under_lock_is u R = (
@@ -246,12 +191,7 @@ under_lock_is u R = (
 
 own_ends : (u : Until) (thread : ℕ) (l : List SourceEvent) → list_any (λ d. ends (view_until u) d.act) (events_of thread l) ≡ list_any (test_of (test.Ends u thread)) l
 own_ends u thread [] = refl
-own_ends u thread (e ∷ l) = by_cases (own_ends u thread l) (is_of thread e) refl
-  where
-    by_cases : list_any (λ d. ends (view_until u) d.act) (events_of thread l) ≡ list_any (test_of (test.Ends u thread)) l → (b : Bool) → is_of thread e ≡ b
-        → list_any (λ d. ends (view_until u) d.act) (events_of thread (e ∷ l)) ≡ list_any (test_of (test.Ends u thread)) (e ∷ l)
-    by_cases more true i = rw (i) (ap (λ z. ends (view_until u) e.act || z) more)
-    by_cases more false i = rw (i) more
+own_ends u thread (e ∷ l) = elim (cases_Bool (is_of thread e)) [ inl i ↦ rw (i) (ap (λ z. ends (view_until u) e.act || z) (own_ends u thread l)) | inr i ↦ rw (i) (own_ends u thread l) ]
 
 front_none : (p : SourceEvent → Bool) (l m : List SourceEvent) → list_any p (l ++ m) ≡ false → list_any p l ≡ false
 front_none p l m h = (or_parts _ _ (sym (list_any-append p l m) ∙ h)).0
@@ -261,10 +201,7 @@ with_one p l e h i = list_any-append p l (e ∷ []) ∙ or_from _ _ h (or_from _
 
 dynamic : (m : CellMode) → is_dynamic m ≡ true → m ≡ Dynamic
 dynamic Dynamic h = refl
-dynamic Private h = absurd (cc)
-dynamic Readonly h = absurd (cc)
-dynamic (Locked c) h = absurd (cc)
-dynamic Racy h = absurd (cc)
+dynamic _ h = absurd (cc)
 
 -- a pair that conflicts
 record Conflict (u : Until) (thread : ℕ) (b : Access) (d : SourceEvent) (between : List SourceEvent) : Type 0 where
@@ -312,10 +249,7 @@ conflicting u thread b d between c =
 
 beside_none : (m : CellMode) (u : Until) (before : List SourceEvent) (thread : ℕ) (b : Access) → (m ≡ Dynamic → any_pair (pair_of (pair.Conflicts u thread (of_access b))) before ≡ false) → beside m u before thread (of_access b) ≡ false
 beside_none Dynamic u before thread b h = h refl
-beside_none Private u before thread b h = refl
-beside_none Readonly u before thread b h = refl
-beside_none (Locked c) u before thread b h = refl
-beside_none Racy u before thread b h = refl
+beside_none _ u before thread b h = refl
 
 -- of two accesses in a set, the later is at a place where the earlier comes before it
 later_breaks : (u : Until) (R : List SourceEvent) (o : Object) (granule : ℕ) (earlier later : List SourceEvent) (d e : SourceEvent) (a b : Access)
@@ -357,8 +291,8 @@ shared_is u R = (there_is_none, none_is_there)
     there_is_none : Unbroken rule.ReadSharedOrOneThread u R → ReadSharedOrOwn R (view_until u)
     there_is_none h earlier later o granule d e a b parts x y other = by_order (in_order earlier x.before d x.after y.before e y.after x.stands y.stands)
       where
-        by_order : (d ≡ e) ⊎ (Behind x.before d x.after y.before e y.after ⊎ Behind y.before e y.after x.before d x.after) → a.is_write || b.is_write ≡ false
-        by_order (inl same) = absurd (other (ap (λ (z : SourceEvent). z.thread) same))
+        by_order : Order x.before d x.after y.before e y.after → a.is_write || b.is_write ≡ false
+        by_order (inl same) = absurd (other (ap (λ (z : SourceEvent). z.thread) same.event))
         by_order (inr (inl order)) = later_breaks u R o granule earlier later d e a b parts x y other order h
         by_order (inr (inr order)) = or_turned a.is_write b.is_write ∙ later_breaks u R o granule earlier later e d b a parts y x (λ i. other (sym i)) order h
 

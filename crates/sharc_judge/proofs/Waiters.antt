@@ -1,5 +1,5 @@
 -- The lowest of the threads that wait.
-use Rattle.std.proofs.{Common.{◌≡◌, ◌↔◌, ◌⊎◌, inl, inr, ℕ, ℤ, pos, ◌+◌, ◌<◌, ◌≤◌, nat_lt, Bool, true, false, ◌||◌, List, [], ◌∷◌, reverse, Option, Some, None, if◌then◌else◌, refl, ap, sym, subst, ◌∙◌, arith}, Math.Bool.or-false, lemmas.Bool.{ltb-true, ltb-false, eqb-true, and_parts, or_cases, or_left, or_right, both_ways, cases_order}, lemmas.List.reverse-append, lemmas.List.Folds.list_any-append}
+use Rattle.std.proofs.{Common.{◌≡◌, ◌↔◌, ◌⊎◌, inl, inr, ℕ, ℤ, pos, ◌+◌, ◌<◌, ◌≤◌, nat_lt, Bool, true, false, ◌||◌, List, [], ◌∷◌, reverse, Option, Some, None, if◌then◌else◌, refl, ap, sym, subst, ◌∙◌, arith}, Math.Bool.or-false, lemmas.Bool.{cases_Bool, ltb-true, ltb-false, eqb-true, and_parts, or_cases, or_left, or_right, both_ways, cases_order}, lemmas.List.reverse-append, lemmas.List.Folds.list_any-append}
 use Rattle.std.specs.List.{list_any, find}
 use Rattle.sharc_tree.specs.{declared.event.CellAt.CellAt, declared.event.SourceEvent.SourceEvent}
 use Rattle.sharc_meaning.specs.{Events.is_of, Store.{meets, enters, takes_away, is_waiter, Signals}}
@@ -15,11 +15,10 @@ is_first p e l h = or_left (p e) (list_any p l) h
 
 found_any : (p q : SourceEvent → Bool) (l : List SourceEvent) → meets p (find q l) ≡ true → list_any p l ≡ true
 found_any p q [] h = h
-found_any p q (e ∷ l) h = by_cases (found_any p q l) (q e) refl
-  where
-    by_cases : (meets p (find q l) ≡ true → list_any p l ≡ true) → (b : Bool) → q e ≡ b → list_any p (e ∷ l) ≡ true
-    by_cases more true i = is_first p e l (sym (ap (λ z. meets p (if z then Some e else find q l)) i) ∙ h)
-    by_cases more false i = behind_first p e l (more (sym (ap (λ z. meets p (if z then Some e else find q l)) i) ∙ h))
+found_any p q (e ∷ l) h = elim (cases_Bool (q e)) [
+  | inl i ↦ is_first p e l (sym (ap (λ z. meets p (if z then Some e else find q l)) i) ∙ h)
+  | inr i ↦ behind_first p e l ((found_any p q l) (sym (ap (λ z. meets p (if z then Some e else find q l)) i) ∙ h))
+]
 
 turned_any : (p : SourceEvent → Bool) (l : List SourceEvent) → list_any p (reverse l) ≡ true → list_any p l ≡ true
 turned_any p [] h = h

@@ -1,5 +1,5 @@
 -- The machine reads each phrase that fits.
-use Rattle.sharc_parse.proofs.Imports.{◌≡◌, ℕ, ◌≤◌, ◌<◌, List, [], ◌∷◌, Option, Some, None, refl, sym, ap, ◌∙◌, arith, Bool, true, false, cond, must, Keyword, OpenParenthesis, CloseParenthesis, Comma, Arrow, Minus, Star, Exclamation, Tilde, Base, BinaryOperator, UnaryOperator, Negate, Not, Complement, Dereference, FieldOperator, Constant, ValueCall, PlaceCall, Word, name, keyword, mark, number, character, Sharing, private, readonly, racy, dynamic, locked, locked_through, Declaring, sharing_words, level_words, base_words, bottom_words, levels_words, list_words, declaring_words, FitsBottom, FitsLevels, FitsList, FitsType, NoModes, IsPlain, Front, parenthesis, of_spawn, of_value, of_place, of_cast, Phrase, identifier, constant, enclosed, call, index, field, unary, binary, Phrases, none, more, operator_mark, unary_mark, access_mark, constant_word, strength, front_words, words, words_of_rest, level, FitsFront, Fits, FitAll, malloc, Doing, assign, invoke, Line, doing_words, Part, Outer, LinePlace, as_statement, in_line, as_step, ValuePlace, returning, testing, subject, counting, Cont, part, beneath, right_of, fronted, indexing, arguments, NamePlace, field_of, local, TypePlace, naming, casting, sizing, ModePlace, before_base, at_level, Core, Want, Have, Called, Valued, TypeWant, ModeFirst, StructWant, Typed, Named, State, or_else, to, role, grip_of, grip, joined, with_last, floor, want, counted, shift, have, called, takes_modes, moded, mode_step, based, begin_type, typed, fields, may_declare, line_start, start, returned, for_test, for_step, malloced, core_step, Stuck, then_on, reads, reads_at, weak, operating, settle_stops, role_binary, role_unary, le_true}
+use Rattle.sharc_parse.proofs.Imports.{◌≡◌, ℕ, ◌≤◌, List, [], ◌∷◌, Option, Some, None, refl, sym, ap, ◌∙◌, arith, Bool, true, false, cond, must, Keyword, OpenParenthesis, CloseParenthesis, CloseBrace, Semicolon, Comma, Arrow, Minus, Star, Exclamation, Tilde, Base, BinaryOperator, UnaryOperator, Not, FieldOperator, Constant, ValueCall, PlaceCall, Word, name, keyword, mark, number, character, Sharing, private, locked, locked_through, Declaring, sharing_words, level_words, base_words, bottom_words, levels_words, list_words, declaring_words, FitsBottom, FitsLevels, FitsList, FitsType, NoModes, IsPlain, Front, of_value, of_place, of_cast, Phrase, identifier, constant, enclosed, call, index, field, unary, binary, Phrases, none, more, operator_mark, unary_mark, access_mark, constant_word, strength, front_words, words, words_of_rest, level, FitsFront, Fits, FitAll, malloc, Doing, assign, invoke, Line, doing_words, Part, Outer, LinePlace, as_statement, in_line, as_step, ValuePlace, returning, testing, subject, counting, Cont, part, beneath, right_of, fronted, indexing, arguments, NamePlace, field_of, local, TypePlace, naming, casting, sizing, ModePlace, before_base, at_level, Core, Want, Have, Called, Valued, TypeWant, ModeFirst, StructWant, Typed, Named, State, or_else, to, role, grip_of, grip, joined, with_last, floor, want, counted, shift, have, called, takes_modes, moded, mode_step, based, begin_type, typed, fields, may_declare, line_start, start, returned, for_test, for_step, malloced, core_step, Stuck, then_on, reads, reads_at, weak, operating, settle_stops, role_binary, role_unary, le_true}
 
 pub whole_binary : (y : List Word) (a b : Phrase) (o : BinaryOperator) (k : Cont) → grip y ≤ strength o → reads_at y (Have b (right_of a o k)) ≡ reads_at y (Have (binary o a b) k)
 whole_binary [] a b o k h = refl
@@ -9,36 +9,42 @@ pub whole_unary : (y : List Word) (u : UnaryOperator) (a : Phrase) (k : Cont) �
 whole_unary [] u a k h = refl
 whole_unary (t ∷ y) u a k h = ap (λ n. then_on n (λ s. reads y s) (Stuck (t ∷ y))) (role_unary (role t) t u a k h)
 
+pub operator_step : (o : BinaryOperator) (x : Phrase) (k : Cont) → floor k ≤ strength o → core_step (Have x k) (mark (operator_mark o)) ≡ to (Want (right_of x o k))
+operator_step o x k h =
+    ap (λ r. have r x k (mark (operator_mark o))) (operating o)
+    ∙ ap (λ (s : Phrase × Cont). shift o s.0 s.1) (settle_stops (strength o) x k (weak o) h)
+    ∙ ap (λ b. cond b (to (Want (right_of x o k))) (counted o x k)) (le_true (floor k) (strength o) h)
+
 -- an operator after an operand
 pub takes : (o : BinaryOperator) (x : Phrase) (k : Cont) (y : List Word) → floor k ≤ strength o → reads_at (mark (operator_mark o) ∷ y) (Have x k) ≡ reads_at y (Want (right_of x o k))
-takes o x k y h =
-    ap (λ r. then_on (have r x k (mark (operator_mark o))) (λ s. reads y s) (Stuck (mark (operator_mark o) ∷ y))) (operating o)
-    ∙ ap (λ (s : Phrase × Cont). then_on (shift o s.0 s.1) (λ n. reads y n) (Stuck (mark (operator_mark o) ∷ y))) (settle_stops (strength o) x k (weak o) h)
-    ∙ ap (λ b. then_on (cond b (to (Want (right_of x o k))) (counted o x k)) (λ n. reads y n) (Stuck (mark (operator_mark o) ∷ y))) (le_true (floor k) (strength o) h)
+takes o x k y h = ap (λ n. then_on n (λ s. reads y s) (Stuck (mark (operator_mark o) ∷ y))) (operator_step o x k h)
 
 pub prefixed : (u : UnaryOperator) (k : Cont) (y : List Word) → reads_at (mark (unary_mark u) ∷ y) (Want k) ≡ reads_at y (Want (beneath u k))
 prefixed Not k y = refl
 prefixed _ k y = refl
 
 -- what an expression may begin with
+abbrev is_first : Word → Bool
+is_first (name n) = true
+is_first (number n) = true
+is_first (character c) = true
+is_first (keyword Keyword.Null) = true
+is_first (keyword Keyword.Spawn) = true
+is_first (keyword Keyword.Join) = true
+is_first (keyword Keyword.Print) = true
+is_first (keyword Keyword.Lock) = true
+is_first (keyword Keyword.Unlock) = true
+is_first (keyword Keyword.Free) = true
+is_first (keyword Keyword.Scast) = true
+is_first (mark Minus) = true
+is_first (mark Exclamation) = true
+is_first (mark Tilde) = true
+is_first (mark Star) = true
+is_first (mark OpenParenthesis) = true
+is_first _ = false
+
 abbrev pub IsFirst : Word → Type 0
-IsFirst (name n) = Unit {0}
-IsFirst (number n) = Unit {0}
-IsFirst (character c) = Unit {0}
-IsFirst (keyword Keyword.Null) = Unit {0}
-IsFirst (keyword Keyword.Spawn) = Unit {0}
-IsFirst (keyword Keyword.Join) = Unit {0}
-IsFirst (keyword Keyword.Print) = Unit {0}
-IsFirst (keyword Keyword.Lock) = Unit {0}
-IsFirst (keyword Keyword.Unlock) = Unit {0}
-IsFirst (keyword Keyword.Free) = Unit {0}
-IsFirst (keyword Keyword.Scast) = Unit {0}
-IsFirst (mark Minus) = Unit {0}
-IsFirst (mark Exclamation) = Unit {0}
-IsFirst (mark Tilde) = Unit {0}
-IsFirst (mark Star) = Unit {0}
-IsFirst (mark OpenParenthesis) = Unit {0}
-IsFirst _ = ⊥
+IsFirst t = is_first t ≡ true
 
 pub record First (fine : Word → Type 0) (all : List Word) : Type 0 where
   pub first : Word
@@ -46,32 +52,27 @@ pub record First (fine : Word → Type 0) (all : List Word) : Type 0 where
   pub rest : List Word
   pub is : all ≡ first ∷ rest
 
+starts : (fine : Word → Type 0) (t : Word) (y : List Word) → fine t → First fine (t ∷ y)
+starts fine t y h = record { first = t; is_first = h; rest = y; is = refl }
+
 constant_first : (c : Constant) (y : List Word) → First IsFirst (constant_word c ∷ y)
-constant_first (Constant.Number n) y = record { first = number n; is_first = tt; rest = y; is = refl }
-constant_first (Constant.Character c) y = record { first = character c; is_first = tt; rest = y; is = refl }
-constant_first Constant.Null y = record { first = keyword Keyword.Null; is_first = tt; rest = y; is = refl }
+constant_first (Constant.Number n) y = starts IsFirst _ _ refl
+constant_first _ y = starts IsFirst _ _ refl
 
 unary_first : (u : UnaryOperator) (y : List Word) → First IsFirst (mark (unary_mark u) ∷ y)
-unary_first Negate y = record { first = mark Minus; is_first = tt; rest = y; is = refl }
-unary_first Not y = record { first = mark Exclamation; is_first = tt; rest = y; is = refl }
-unary_first Complement y = record { first = mark Tilde; is_first = tt; rest = y; is = refl }
-unary_first Dereference y = record { first = mark Star; is_first = tt; rest = y; is = refl }
+unary_first Not y = starts IsFirst _ _ refl
+unary_first _ y = starts IsFirst _ _ refl
 
 front_first : (f : Front) (y : List Word) → First IsFirst (front_words f y)
-front_first parenthesis y = record { first = mark OpenParenthesis; is_first = tt; rest = _; is = refl }
-front_first (of_spawn f) y = record { first = keyword Keyword.Spawn; is_first = tt; rest = _; is = refl }
-front_first (of_value ValueCall.Join) y = record { first = keyword Keyword.Join; is_first = tt; rest = _; is = refl }
-front_first (of_value ValueCall.Print) y = record { first = keyword Keyword.Print; is_first = tt; rest = _; is = refl }
-front_first (of_place PlaceCall.Lock) y = record { first = keyword Keyword.Lock; is_first = tt; rest = _; is = refl }
-front_first (of_place PlaceCall.Unlock) y = record { first = keyword Keyword.Unlock; is_first = tt; rest = _; is = refl }
-front_first (of_place PlaceCall.Free) y = record { first = keyword Keyword.Free; is_first = tt; rest = _; is = refl }
-front_first (of_cast t) y = record { first = keyword Keyword.Scast; is_first = tt; rest = _; is = refl }
+front_first (of_value ValueCall.Join) y = starts IsFirst _ _ refl
+front_first (of_place PlaceCall.Lock) y = starts IsFirst _ _ refl
+front_first _ y = starts IsFirst _ _ refl
 
 pub first : (x : Phrase) (y : List Word) → First IsFirst (words x y)
-first (identifier n) y = record { first = name n; is_first = tt; rest = y; is = refl }
+first (identifier n) y = starts IsFirst _ _ refl
 first (constant c) y = constant_first c y
 first (enclosed f a) y = front_first f _
-first (call f all) y = record { first = name f; is_first = tt; rest = _; is = refl }
+first (call f all) y = starts IsFirst _ _ refl
 first (index a i) y = first a _
 first (field a w n) y = first a _
 first (unary u a) y = unary_first u _
@@ -93,167 +94,71 @@ idle true w = refl
 idle false w = refl
 
 pub called_at : (t : Word) → IsFirst t → (f : List ℕ) (k : Cont) → called f k t ≡ want (arguments f none k) t
-called_at (name n) h f k = refl
-called_at (number n) h f k = refl
-called_at (character c) h f k = refl
-called_at (keyword Keyword.Null) h f k = refl
-called_at (keyword Keyword.Spawn) h f k = refl
-called_at (keyword Keyword.Join) h f k = refl
-called_at (keyword Keyword.Print) h f k = refl
-called_at (keyword Keyword.Lock) h f k = refl
-called_at (keyword Keyword.Unlock) h f k = refl
-called_at (keyword Keyword.Free) h f k = refl
-called_at (keyword Keyword.Scast) h f k = refl
-called_at (mark Minus) h f k = refl
-called_at (mark Exclamation) h f k = refl
-called_at (mark Tilde) h f k = refl
-called_at (mark Star) h f k = refl
-called_at (mark OpenParenthesis) h f k = refl
-called_at _ h f k = absurd h
+called_at (mark CloseParenthesis) h f k = cc
+called_at _ h f k = refl
 
 pub returned_at : (t : Word) → IsFirst t → (o : Outer) → returned o t ≡ want (part returning o) t
-returned_at (name n) h o = refl
-returned_at (number n) h o = refl
-returned_at (character c) h o = refl
-returned_at (keyword Keyword.Null) h o = refl
-returned_at (keyword Keyword.Spawn) h o = refl
-returned_at (keyword Keyword.Join) h o = refl
-returned_at (keyword Keyword.Print) h o = refl
-returned_at (keyword Keyword.Lock) h o = refl
-returned_at (keyword Keyword.Unlock) h o = refl
-returned_at (keyword Keyword.Free) h o = refl
-returned_at (keyword Keyword.Scast) h o = refl
-returned_at (mark Minus) h o = refl
-returned_at (mark Exclamation) h o = refl
-returned_at (mark Tilde) h o = refl
-returned_at (mark Star) h o = refl
-returned_at (mark OpenParenthesis) h o = refl
-returned_at _ h o = absurd h
+returned_at (mark Semicolon) h o = cc
+returned_at _ h o = refl
 
 pub test_at : (t : Word) → IsFirst t → (l : Line) (o : Outer) → for_test l o t ≡ want (part (testing l) o) t
-test_at (name n) h l o = refl
-test_at (number n) h l o = refl
-test_at (character c) h l o = refl
-test_at (keyword Keyword.Null) h l o = refl
-test_at (keyword Keyword.Spawn) h l o = refl
-test_at (keyword Keyword.Join) h l o = refl
-test_at (keyword Keyword.Print) h l o = refl
-test_at (keyword Keyword.Lock) h l o = refl
-test_at (keyword Keyword.Unlock) h l o = refl
-test_at (keyword Keyword.Free) h l o = refl
-test_at (keyword Keyword.Scast) h l o = refl
-test_at (mark Minus) h l o = refl
-test_at (mark Exclamation) h l o = refl
-test_at (mark Tilde) h l o = refl
-test_at (mark Star) h l o = refl
-test_at (mark OpenParenthesis) h l o = refl
-test_at _ h l o = absurd h
+test_at (mark Semicolon) h l o = cc
+test_at _ h l o = refl
 
 pub step_at : (t : Word) → IsFirst t → (l : Line) (e : Option Phrase) (o : Outer) → for_step l e o t ≡ want (part (subject (as_step l e)) o) t
-step_at (name n) h l e o = refl
-step_at (number n) h l e o = refl
-step_at (character c) h l e o = refl
-step_at (keyword Keyword.Null) h l e o = refl
-step_at (keyword Keyword.Spawn) h l e o = refl
-step_at (keyword Keyword.Join) h l e o = refl
-step_at (keyword Keyword.Print) h l e o = refl
-step_at (keyword Keyword.Lock) h l e o = refl
-step_at (keyword Keyword.Unlock) h l e o = refl
-step_at (keyword Keyword.Free) h l e o = refl
-step_at (keyword Keyword.Scast) h l e o = refl
-step_at (mark Minus) h l e o = refl
-step_at (mark Exclamation) h l e o = refl
-step_at (mark Tilde) h l e o = refl
-step_at (mark Star) h l e o = refl
-step_at (mark OpenParenthesis) h l e o = refl
-step_at _ h l e o = absurd h
+step_at (mark CloseParenthesis) h l e o = cc
+step_at _ h l e o = refl
 
 pub malloced_at : (t : Word) → IsFirst t → (v : ValuePlace) (o : Outer) → malloced v o t ≡ want (part (counting v) o) t
-malloced_at (name n) h v o = refl
-malloced_at (number n) h v o = refl
-malloced_at (character c) h v o = refl
-malloced_at (keyword Keyword.Null) h v o = refl
-malloced_at (keyword Keyword.Spawn) h v o = refl
-malloced_at (keyword Keyword.Join) h v o = refl
-malloced_at (keyword Keyword.Print) h v o = refl
-malloced_at (keyword Keyword.Lock) h v o = refl
-malloced_at (keyword Keyword.Unlock) h v o = refl
-malloced_at (keyword Keyword.Free) h v o = refl
-malloced_at (keyword Keyword.Scast) h v o = refl
-malloced_at (mark Minus) h v o = refl
-malloced_at (mark Exclamation) h v o = refl
-malloced_at (mark Tilde) h v o = refl
-malloced_at (mark Star) h v o = refl
-malloced_at (mark OpenParenthesis) h v o = refl
-malloced_at _ h v o = absurd h
+malloced_at (keyword Keyword.Sizeof) h v o = cc
+malloced_at _ h v o = refl
+
+no_type : (t : Word) → IsFirst t → (p : NamePlace) → begin_type (naming p) t ≡ None
+no_type (keyword Keyword.Null) h p = refl
+no_type _ h p = cc
 
 pub line_start_at : (t : Word) → IsFirst t → (p : LinePlace) (o : Outer) → line_start p o t ≡ want (part (subject (in_line p)) o) t
-line_start_at (name n) h p o = idle (may_declare p o) _
-line_start_at (number n) h p o = idle (may_declare p o) _
-line_start_at (character c) h p o = idle (may_declare p o) _
-line_start_at (keyword Keyword.Null) h p o = idle (may_declare p o) _
-line_start_at (keyword Keyword.Spawn) h p o = idle (may_declare p o) _
-line_start_at (keyword Keyword.Join) h p o = idle (may_declare p o) _
-line_start_at (keyword Keyword.Print) h p o = idle (may_declare p o) _
-line_start_at (keyword Keyword.Lock) h p o = idle (may_declare p o) _
-line_start_at (keyword Keyword.Unlock) h p o = idle (may_declare p o) _
-line_start_at (keyword Keyword.Free) h p o = idle (may_declare p o) _
-line_start_at (keyword Keyword.Scast) h p o = idle (may_declare p o) _
-line_start_at (mark Minus) h p o = idle (may_declare p o) _
-line_start_at (mark Exclamation) h p o = idle (may_declare p o) _
-line_start_at (mark Tilde) h p o = idle (may_declare p o) _
-line_start_at (mark Star) h p o = idle (may_declare p o) _
-line_start_at (mark OpenParenthesis) h p o = idle (may_declare p o) _
-line_start_at _ h p o = absurd h
+line_start_at (mark Semicolon) h p o = cc
+line_start_at t h p o =
+    ap (λ b. or_else (cond (may_declare p o) b None) (want (part (subject (in_line p)) o) t)) (no_type t h (local p o))
+    ∙ idle (may_declare p o) (want (part (subject (in_line p)) o) t)
 
 pub start_at : (t : Word) → IsFirst t → (o : Outer) → start o t ≡ line_start as_statement o t
-start_at (name n) h o = refl
-start_at (number n) h o = refl
-start_at (character c) h o = refl
 start_at (keyword Keyword.Null) h o = refl
-start_at (keyword Keyword.Spawn) h o = refl
-start_at (keyword Keyword.Join) h o = refl
-start_at (keyword Keyword.Print) h o = refl
-start_at (keyword Keyword.Lock) h o = refl
-start_at (keyword Keyword.Unlock) h o = refl
-start_at (keyword Keyword.Free) h o = refl
-start_at (keyword Keyword.Scast) h o = refl
 start_at (mark Minus) h o = refl
-start_at (mark Exclamation) h o = refl
-start_at (mark Tilde) h o = refl
-start_at (mark Star) h o = refl
-start_at (mark OpenParenthesis) h o = refl
-start_at _ h o = absurd h
+start_at _ h o = cc
+
+abbrev is_mode : Word → Bool
+is_mode (keyword Keyword.Private) = true
+is_mode (keyword Keyword.Readonly) = true
+is_mode (keyword Keyword.Racy) = true
+is_mode (keyword Keyword.Dynamic) = true
+is_mode (keyword Keyword.Locked) = true
+is_mode _ = false
+
+abbrev pub IsModeWord : Word → Type 0
+IsModeWord t = is_mode t ≡ true
 
 -- what a type may begin with
+abbrev is_type_first : Word → Bool
+is_type_first (keyword Keyword.Int) = true
+is_type_first (keyword Keyword.Char) = true
+is_type_first (keyword Keyword.Long) = true
+is_type_first (keyword Keyword.Mutex) = true
+is_type_first (keyword Keyword.Void) = true
+is_type_first (keyword Keyword.Struct) = true
+is_type_first t = is_mode t
+
 abbrev pub IsTypeFirst : Word → Type 0
-IsTypeFirst (keyword Keyword.Private) = Unit {0}
-IsTypeFirst (keyword Keyword.Readonly) = Unit {0}
-IsTypeFirst (keyword Keyword.Racy) = Unit {0}
-IsTypeFirst (keyword Keyword.Dynamic) = Unit {0}
-IsTypeFirst (keyword Keyword.Locked) = Unit {0}
-IsTypeFirst (keyword Keyword.Int) = Unit {0}
-IsTypeFirst (keyword Keyword.Char) = Unit {0}
-IsTypeFirst (keyword Keyword.Long) = Unit {0}
-IsTypeFirst (keyword Keyword.Mutex) = Unit {0}
-IsTypeFirst (keyword Keyword.Void) = Unit {0}
-IsTypeFirst (keyword Keyword.Struct) = Unit {0}
-IsTypeFirst _ = ⊥
+IsTypeFirst t = is_type_first t ≡ true
 
 sharing_first : (s : Sharing) (y : List Word) → First IsTypeFirst (sharing_words s y)
-sharing_first private y = record { first = keyword Keyword.Private; is_first = tt; rest = _; is = refl }
-sharing_first readonly y = record { first = keyword Keyword.Readonly; is_first = tt; rest = _; is = refl }
-sharing_first racy y = record { first = keyword Keyword.Racy; is_first = tt; rest = _; is = refl }
-sharing_first dynamic y = record { first = keyword Keyword.Dynamic; is_first = tt; rest = _; is = refl }
-sharing_first _ y = record { first = keyword Keyword.Locked; is_first = tt; rest = _; is = refl }
+sharing_first private y = starts IsTypeFirst _ _ refl
+sharing_first _ y = starts IsTypeFirst _ _ refl
 
 base_first : (b : Base) (y : List Word) → First IsTypeFirst (base_words b y)
-base_first Base.Int y = record { first = keyword Keyword.Int; is_first = tt; rest = _; is = refl }
-base_first Base.Char y = record { first = keyword Keyword.Char; is_first = tt; rest = _; is = refl }
-base_first Base.Long y = record { first = keyword Keyword.Long; is_first = tt; rest = _; is = refl }
-base_first Base.Mutex y = record { first = keyword Keyword.Mutex; is_first = tt; rest = _; is = refl }
-base_first Base.Void y = record { first = keyword Keyword.Void; is_first = tt; rest = _; is = refl }
-base_first (Base.Struct n) y = record { first = keyword Keyword.Struct; is_first = tt; rest = _; is = refl }
+base_first Base.Int y = starts IsTypeFirst _ _ refl
+base_first _ y = starts IsTypeFirst _ _ refl
 
 pub levels_first : (first : Bool) (b : Base) (m : Option Sharing) (below : List (Option Sharing)) (y : List Word) → First IsTypeFirst (levels_words first b m below y)
 levels_first true b None [] y = base_first b _
@@ -266,82 +171,36 @@ list_first first b [] y w = absurd w
 list_first first b (m ∷ below) y w = levels_first first b m below y
 
 pub fields_at : (t : Word) → IsTypeFirst t → (all : List Part) (s : List ℕ) (before : List Declaring) → fields all s before t ≡ begin_type (naming (field_of all s before)) t
-fields_at (keyword Keyword.Private) h all s before = refl
-fields_at (keyword Keyword.Readonly) h all s before = refl
-fields_at (keyword Keyword.Racy) h all s before = refl
-fields_at (keyword Keyword.Dynamic) h all s before = refl
-fields_at (keyword Keyword.Locked) h all s before = refl
-fields_at (keyword Keyword.Int) h all s before = refl
-fields_at (keyword Keyword.Char) h all s before = refl
-fields_at (keyword Keyword.Long) h all s before = refl
-fields_at (keyword Keyword.Mutex) h all s before = refl
-fields_at (keyword Keyword.Void) h all s before = refl
-fields_at (keyword Keyword.Struct) h all s before = refl
-fields_at _ h all s before = absurd h
+fields_at (mark CloseBrace) h all s before = cc
+fields_at _ h all s before = refl
 
 pub declares_at : (t : Word) → IsTypeFirst t → (p : LinePlace) (o : Outer) → may_declare p o ≡ true → line_start p o t ≡ begin_type (naming (local p o)) t
-declares_at (keyword Keyword.Private) h p o e = ap (λ b. or_else (cond b (begin_type (naming (local p o)) (keyword Keyword.Private)) None) None) e
-declares_at (keyword Keyword.Readonly) h p o e = ap (λ b. or_else (cond b (begin_type (naming (local p o)) (keyword Keyword.Readonly)) None) None) e
-declares_at (keyword Keyword.Racy) h p o e = ap (λ b. or_else (cond b (begin_type (naming (local p o)) (keyword Keyword.Racy)) None) None) e
-declares_at (keyword Keyword.Dynamic) h p o e = ap (λ b. or_else (cond b (begin_type (naming (local p o)) (keyword Keyword.Dynamic)) None) None) e
-declares_at (keyword Keyword.Locked) h p o e = ap (λ b. or_else (cond b (begin_type (naming (local p o)) (keyword Keyword.Locked)) None) None) e
-declares_at (keyword Keyword.Int) h p o e = ap (λ b. or_else (cond b (begin_type (naming (local p o)) (keyword Keyword.Int)) None) None) e
-declares_at (keyword Keyword.Char) h p o e = ap (λ b. or_else (cond b (begin_type (naming (local p o)) (keyword Keyword.Char)) None) None) e
-declares_at (keyword Keyword.Long) h p o e = ap (λ b. or_else (cond b (begin_type (naming (local p o)) (keyword Keyword.Long)) None) None) e
-declares_at (keyword Keyword.Mutex) h p o e = ap (λ b. or_else (cond b (begin_type (naming (local p o)) (keyword Keyword.Mutex)) None) None) e
-declares_at (keyword Keyword.Void) h p o e = ap (λ b. or_else (cond b (begin_type (naming (local p o)) (keyword Keyword.Void)) None) None) e
-declares_at (keyword Keyword.Struct) h p o e = ap (λ b. or_else (cond b (begin_type (naming (local p o)) (keyword Keyword.Struct)) None) None) e
-declares_at _ h p o e = absurd h
+declares_at (mark Semicolon) h p o e = cc
+declares_at (keyword Keyword.Int) h p o e = rw e refl
+declares_at _ h p o e = rw e cc
 
 pub start_declares_at : (t : Word) → IsTypeFirst t → (o : Outer) → start o t ≡ line_start as_statement o t
-start_declares_at (keyword Keyword.Private) h o = refl
-start_declares_at (keyword Keyword.Readonly) h o = refl
-start_declares_at (keyword Keyword.Racy) h o = refl
-start_declares_at (keyword Keyword.Dynamic) h o = refl
-start_declares_at (keyword Keyword.Locked) h o = refl
 start_declares_at (keyword Keyword.Int) h o = refl
-start_declares_at (keyword Keyword.Char) h o = refl
-start_declares_at (keyword Keyword.Long) h o = refl
-start_declares_at (keyword Keyword.Mutex) h o = refl
-start_declares_at (keyword Keyword.Void) h o = refl
-start_declares_at (keyword Keyword.Struct) h o = refl
-start_declares_at _ h o = absurd h
+start_declares_at (mark Semicolon) h o = cc
+start_declares_at _ h o = cc
 
 -- Types.
 
-abbrev pub IsModeWord : Word → Type 0
-IsModeWord (keyword Keyword.Private) = Unit {0}
-IsModeWord (keyword Keyword.Readonly) = Unit {0}
-IsModeWord (keyword Keyword.Racy) = Unit {0}
-IsModeWord (keyword Keyword.Dynamic) = Unit {0}
-IsModeWord (keyword Keyword.Locked) = Unit {0}
-IsModeWord _ = ⊥
-
 mode_reads : (p : ModePlace) (c : Core) → ((t : Word) → IsModeWord t → core_step c t ≡ mode_step p t) → (s : Sharing) (y : List Word) → reads_at (sharing_words s y) c ≡ reads_at y (moded p s)
-mode_reads p c h private y = ap (λ o. then_on o (λ n. reads y n) (Stuck (sharing_words private y))) (h (keyword Keyword.Private) tt)
-mode_reads p c h readonly y = ap (λ o. then_on o (λ n. reads y n) (Stuck (sharing_words readonly y))) (h (keyword Keyword.Readonly) tt)
-mode_reads p c h racy y = ap (λ o. then_on o (λ n. reads y n) (Stuck (sharing_words racy y))) (h (keyword Keyword.Racy) tt)
-mode_reads p c h dynamic y = ap (λ o. then_on o (λ n. reads y n) (Stuck (sharing_words dynamic y))) (h (keyword Keyword.Dynamic) tt)
 mode_reads p c h (locked m) y =
-    ap (λ o. then_on o (λ n. reads (mark OpenParenthesis ∷ (name m ∷ (mark CloseParenthesis ∷ y))) n) (Stuck (sharing_words (locked m) y))) (h (keyword Keyword.Locked) tt)
+    ap (λ o. then_on o (λ n. reads (mark OpenParenthesis ∷ (name m ∷ (mark CloseParenthesis ∷ y))) n) (Stuck (sharing_words (locked m) y))) (h (keyword Keyword.Locked) refl)
 mode_reads p c h (locked_through x m) y =
-    ap (λ o. then_on o (λ n. reads (mark OpenParenthesis ∷ (name x ∷ (mark Arrow ∷ (name m ∷ (mark CloseParenthesis ∷ y))))) n) (Stuck (sharing_words (locked_through x m) y))) (h (keyword Keyword.Locked) tt)
+    ap (λ o. then_on o (λ n. reads (mark OpenParenthesis ∷ (name x ∷ (mark Arrow ∷ (name m ∷ (mark CloseParenthesis ∷ y))))) n) (Stuck (sharing_words (locked_through x m) y))) (h (keyword Keyword.Locked) refl)
+mode_reads p c h s y = ap (λ o. then_on o (λ n. reads y n) (Stuck (sharing_words s y))) (h _ refl)
 
 mode_first_at : (p : TypePlace) → takes_modes p ≡ true → (t : Word) → IsModeWord t → begin_type p t ≡ mode_step (before_base p) t
-mode_first_at p e (keyword Keyword.Private) h = ap (λ b. or_else (cond b (mode_step (before_base p) (keyword Keyword.Private)) None) None) e
-mode_first_at p e (keyword Keyword.Readonly) h = ap (λ b. or_else (cond b (mode_step (before_base p) (keyword Keyword.Readonly)) None) None) e
-mode_first_at p e (keyword Keyword.Racy) h = ap (λ b. or_else (cond b (mode_step (before_base p) (keyword Keyword.Racy)) None) None) e
-mode_first_at p e (keyword Keyword.Dynamic) h = ap (λ b. or_else (cond b (mode_step (before_base p) (keyword Keyword.Dynamic)) None) None) e
-mode_first_at p e (keyword Keyword.Locked) h = ap (λ b. or_else (cond b (mode_step (before_base p) (keyword Keyword.Locked)) None) None) e
-mode_first_at p e _ h = absurd h
+mode_first_at p e (keyword Keyword.Private) h = rw e refl
+mode_first_at p e _ h = rw e cc
 
 mode_at : (p : TypePlace) (first : Bool) (b : Base) (below : List (Option Sharing)) → takes_modes p ≡ true → (t : Word) → IsModeWord t → typed p first b None below t ≡ mode_step (at_level p first b below) t
-mode_at p first b below e (keyword Keyword.Private) h = ap (λ c. cond c (mode_step (at_level p first b below) (keyword Keyword.Private)) None) e
-mode_at p first b below e (keyword Keyword.Readonly) h = ap (λ c. cond c (mode_step (at_level p first b below) (keyword Keyword.Readonly)) None) e
-mode_at p first b below e (keyword Keyword.Racy) h = ap (λ c. cond c (mode_step (at_level p first b below) (keyword Keyword.Racy)) None) e
-mode_at p first b below e (keyword Keyword.Dynamic) h = ap (λ c. cond c (mode_step (at_level p first b below) (keyword Keyword.Dynamic)) None) e
-mode_at p first b below e (keyword Keyword.Locked) h = ap (λ c. cond c (mode_step (at_level p first b below) (keyword Keyword.Locked)) None) e
-mode_at p first b below e _ h = absurd h
+mode_at p first b below e (keyword Keyword.Private) h = rw e refl
+mode_at p first b below e (keyword _) h = rw e cc
+mode_at p first b below e _ h = cc
 
 base_reads : (p : TypePlace) (b : Base) (y : List Word) → reads_at (base_words b y) (TypeWant p) ≡ reads_at y (based p None b)
 base_reads p (Base.Struct s) y = ap (λ o. then_on o (λ n. reads (name s ∷ y) n) (Stuck (base_words (Base.Struct s) y))) (idle (takes_modes p) (to (StructWant p None)))

@@ -126,11 +126,11 @@ NoElse [] = Unit {0}
 NoElse (t ∷ y) = is_else t ≡ false
 
 else_first : (t : Word) → IsFirst t → is_else t ≡ false
-else_first (keyword Keyword.Else) h = absurd h
+else_first (keyword Keyword.Else) h = cc
 else_first _ h = refl
 
 else_type : (t : Word) → IsTypeFirst t → is_else t ≡ false
-else_type (keyword Keyword.Else) h = absurd h
+else_type (keyword Keyword.Else) h = cc
 else_type _ h = refl
 
 no_else_doing : (x : Doing) (y : List Word) → NoElse (doing_words x y)

@@ -302,21 +302,15 @@ complete_type (sizing v n o) ty a w h =
 complete_typed : (p : TypePlace) (first : Bool) (b : Base) (m : Option Sharing) (below : List (Option Sharing)) → Sound (Typed p first b m below) → Completed (so_far (Typed p first b m below)) (LowCore (Typed p first b m below))
 complete_typed p first b m below a = complete_type p (typing_of first b m below) a.0 a.1 a.2
 
-complete_based : (p : TypePlace) (m : Option Sharing) → TypeAt p → BaseAt p m → Completed (λ y. type_place_words p (level_words m (base_words Base.Int y))) (LowType p)
-complete_based p None a h =
-    onward (λ y. type_place_words p (base_words Base.Int y)) (so_far (based p None Base.Int)) (LowType p) (LowCore (based p None Base.Int)) (λ y. y) (λ y. refl) (λ l. (omega arith, l)) (complete_typed p false Base.Int None [] (based_sound p None Base.Int a h))
-complete_based p (Some s) a h =
-    onward (λ y. type_place_words p (level_words (Some s) (base_words Base.Int y))) (so_far (based p (Some s) Base.Int)) (LowType p) (LowCore (based p (Some s) Base.Int)) (λ y. y) (λ y. refl) (λ l. (omega arith, l)) (complete_typed p true Base.Int (Some s) [] (based_sound p (Some s) Base.Int a h))
-
-complete_struct : (p : TypePlace) (m : Option Sharing) → TypeAt p → BaseAt p m → Completed (λ y. type_place_words p (level_words m (base_words (Base.Struct x_name) y))) (LowType p)
-complete_struct p None a h =
-    onward (λ y. type_place_words p (base_words (Base.Struct x_name) y)) (so_far (based p None (Base.Struct x_name))) (LowType p) (LowCore (based p None (Base.Struct x_name))) (λ y. y) (λ y. refl) (λ l. (omega arith, l)) (complete_typed p false (Base.Struct x_name) None [] (based_sound p None (Base.Struct x_name) a h))
-complete_struct p (Some s) a h =
-    onward (λ y. type_place_words p (level_words (Some s) (base_words (Base.Struct x_name) y))) (so_far (based p (Some s) (Base.Struct x_name))) (LowType p) (LowCore (based p (Some s) (Base.Struct x_name))) (λ y. y) (λ y. refl) (λ l. (omega arith, l)) (complete_typed p true (Base.Struct x_name) (Some s) [] (based_sound p (Some s) (Base.Struct x_name) a h))
+complete_based : (p : TypePlace) (m : Option Sharing) (b : Base) → TypeAt p → BaseAt p m → Completed (λ y. type_place_words p (level_words m (base_words b y))) (LowType p)
+complete_based p None b a h =
+    onward (λ y. type_place_words p (base_words b y)) (so_far (based p None b)) (LowType p) (LowCore (based p None b)) (λ y. y) (λ y. refl) (λ l. (omega arith, l)) (complete_typed p false b None [] (based_sound p None b a h))
+complete_based p (Some s) b a h =
+    onward (λ y. type_place_words p (level_words (Some s) (base_words b y))) (so_far (based p (Some s) b)) (LowType p) (LowCore (based p (Some s) b)) (λ y. y) (λ y. refl) (λ l. (omega arith, l)) (complete_typed p true b (Some s) [] (based_sound p (Some s) b a h))
 
 complete_first : (p : TypePlace) (s : Sharing) → TypeAt p → takes_modes p ≡ true → Completed (so_far (ModeFirst p s)) (LowType p)
 complete_first p s a h =
-    onward (so_far (ModeFirst p s)) (λ y. type_place_words p (level_words (Some s) (base_words Base.Int y))) (LowType p) (LowType p) (λ y. keyword Keyword.Int ∷ y) (λ y. refl) (λ l. l) (complete_based p (Some s) a h)
+    onward (so_far (ModeFirst p s)) (λ y. type_place_words p (level_words (Some s) (base_words Base.Int y))) (LowType p) (LowType p) (λ y. keyword Keyword.Int ∷ y) (λ y. refl) (λ l. l) (complete_based p (Some s) Base.Int a h)
 
 complete_moded : (p : ModePlace) (s : Sharing) → ModeAt p → Completed (so_far (moded p s)) (LowMode p)
 complete_moded (before_base p) s a = complete_first p s a.0 a.1
@@ -379,10 +373,10 @@ completed (Malloced v o) a =
 completed (Valued v r o) a =
     onward (so_far (Valued v r o)) (so_far (Valued v r o)) (LowCore (Valued v r o)) (LowValue r × LowValuePlace v o × LowOuter o) (λ y. y) (λ y. refl) (λ l. (l.1, l.0, l.2)) (complete_value v r o a.1 a.0 a.2)
 completed (TypeWant p) a =
-    onward (so_far (TypeWant p)) (λ y. type_place_words p (base_words Base.Int y)) (LowType p) (LowType p) (λ y. keyword Keyword.Int ∷ y) (λ y. refl) (λ l. l) (complete_based p None a tt)
+    onward (so_far (TypeWant p)) (λ y. type_place_words p (base_words Base.Int y)) (LowType p) (LowType p) (λ y. keyword Keyword.Int ∷ y) (λ y. refl) (λ l. l) (complete_based p None Base.Int a tt)
 completed (ModeFirst p s) a = complete_first p s a.0 a.1
 completed (StructWant p m) a =
-    onward (so_far (StructWant p m)) (λ y. type_place_words p (level_words m (base_words (Base.Struct x_name) y))) (LowType p) (LowType p) (λ y. name x_name ∷ y) (λ y. refl) (λ l. l) (complete_struct p m a.0 a.1)
+    onward (so_far (StructWant p m)) (λ y. type_place_words p (level_words m (base_words (Base.Struct x_name) y))) (LowType p) (LowType p) (λ y. name x_name ∷ y) (λ y. refl) (λ l. l) (complete_based p m (Base.Struct x_name) a.0 a.1)
 completed (Typed p first b m below) a = complete_typed p first b m below a
 completed (PathWant p) a =
     onward (so_far (PathWant p)) (λ y. mode_place_words p (sharing_words (locked x_name) y)) (LowMode p) (LowMode p) (λ y. name x_name ∷ (mark CloseParenthesis ∷ y)) (λ y. refl) (λ l. l) (complete_mode p (locked x_name) a)

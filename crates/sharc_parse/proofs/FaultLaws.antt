@@ -74,11 +74,7 @@ same_told tokens a b n m e c x y =
     let line : a.line ≡ b.line = x.line ∙ sym y'.line in
     let offset : a.offset ≡ b.offset = x.offset ∙ sym y'.offset in
     let text : a.text ≡ b.text = x.text ∙ ap (λ z. told_of z (drop n tokens.list)) c ∙ sym y'.text in
-    ap (λ (z : GrammarFault). made z a.file a.line a.offset a.text) c
-    ∙ ap (λ (z : List ℕ). made b.code z a.line a.offset a.text) file
-    ∙ ap (λ (z : ℕ). made b.code b.file z a.offset a.text) line
-    ∙ ap (λ (z : ℕ). made b.code b.file b.line z a.text) offset
-    ∙ ap (λ (z : List ℕ). made b.code b.file b.line b.offset z) text
+    let is : made a.code a.file a.line a.offset a.text ≡ made b.code b.file b.line b.offset b.text = cc (c, file, line, offset, text) in is
 
 pub same_fault : (tokens : Tokens) (a b : FaultAt GrammarFault) → IsFaultOf tokens a → IsFaultOf tokens b → a ≡ b
 same_fault tokens a b f g =

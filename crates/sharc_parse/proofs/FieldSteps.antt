@@ -1,27 +1,19 @@
 -- The machine's steps over the fields of a struct.
-use Rattle.sharc_parse.proofs.Imports.{◌≡◌, ℕ, ◌+◌, List, [], ◌∷◌, ◌++◌, None, refl, sym, ap, ◌∙◌, arith, Token, Site, Semicolon, CloseBrace, Declaration, Word, mark, Declaring, Part, structure, field_of, naming, TypeWant, Named, Fields, Top, a_semicolon, At, with_part, with_declaring, named_field, fields, begin_type, StuckAt, next_within, reads_within, fields_size, declaring_size, declaration_at, declarations_at, site_in, bare_declaration, ReadsDeclaration, IsDeclarationPlaced, NotAt, from, Past, declared, Ok}
+use Rattle.sharc_parse.proofs.Imports.{◌≡◌, ℕ, ◌+◌, List, [], ◌∷◌, ◌++◌, refl, sym, ap, ◌∙◌, arith, Token, Site, Semicolon, CloseBrace, Declaration, Word, mark, Declaring, Part, structure, field_of, naming, TypeWant, Named, Fields, Top, a_semicolon, At, with_part, with_declaring, StuckAt, reads_within, fields_size, declaring_size, declaration_at, declarations_at, site_in, bare_declaration, ReadsDeclaration, IsDeclarationPlaced, NotAt, from, Past, declared, Ok}
 
 pub field_ends : (all : List Part) (s : List ℕ) (before : List Declaring) (d : Declaring) (ts y : List Word) → ts ≡ mark Semicolon ∷ y → reads_within ts (At [] (Named (field_of all s before) d.typing d.named)) ≡ reads_within y (At [] (Fields all s (with_declaring before d)))
 field_ends all s before d ts y e = ap (λ ts. reads_within ts (At [] (Named (field_of all s before) d.typing d.named))) e
 
-no_field_end : (all : List Part) (s : List ℕ) (before : List Declaring) (d : Declaring) (t : Word) → (t ≡ mark Semicolon → ⊥) → named_field all s before d t ≡ None
-no_field_end all s before d (mark Semicolon) n = absurd (n refl)
-no_field_end all s before d _ n = refl
-
 pub field_stuck : (all : List Part) (s : List ℕ) (before : List Declaring) (d : Declaring) (ts : List Word) → NotAt (mark Semicolon) ts → reads_within ts (At [] (Named (field_of all s before) d.typing d.named)) ≡ StuckAt ts
-field_stuck all s before d [] n = refl
-field_stuck all s before d (t ∷ y) n = ap (λ o. next_within o (λ s. reads_within y s) (t ∷ y)) (no_field_end all s before d t n)
+field_stuck all s before d (mark Semicolon ∷ y) n = absurd (n refl)
+field_stuck all s before d _ n = refl
 
 pub fields_end : (all : List Part) (s : List ℕ) (done : List Declaring) (ts y : List Word) → ts ≡ mark CloseBrace ∷ y → reads_within ts (At [] (Fields all s done)) ≡ reads_within y (At (a_semicolon ∷ []) (Top (with_part all (structure s done))))
 fields_end all s done ts y e = ap (λ ts. reads_within ts (At [] (Fields all s done))) e
 
-more_fields_step : (all : List Part) (s : List ℕ) (done : List Declaring) (t : Word) → (t ≡ mark CloseBrace → ⊥) → fields all s done t ≡ begin_type (naming (field_of all s done)) t
-more_fields_step all s done (mark CloseBrace) n = absurd (n refl)
-more_fields_step all s done _ n = refl
-
 pub more_fields : (all : List Part) (s : List ℕ) (done : List Declaring) (ts : List Word) → NotAt (mark CloseBrace) ts → reads_within ts (At [] (Fields all s done)) ≡ reads_within ts (At [] (TypeWant (naming (field_of all s done))))
-more_fields all s done [] n = refl
-more_fields all s done (t ∷ y) n = ap (λ o. next_within o (λ s. reads_within y s) (t ∷ y)) (more_fields_step all s done t n)
+more_fields all s done (mark CloseBrace ∷ y) n = absurd (n refl)
+more_fields all s done _ n = refl
 
 pub declared_more : (list : List Declaration) (d : Declaration) → declared (list ++ d ∷ []) ≡ with_declaring (declared list) (bare_declaration d)
 declared_more [] d = refl
@@ -59,12 +51,7 @@ one_field_more tokens n old mid new list all d is z r p e =
           ∙ r (field_of parts s (declared list)) tt
           ∙ field_ends parts s (declared list) (bare_declaration d) (from tokens mid) (from tokens new) e.0
           ∙ ap (λ f. reads_within (from tokens new) (At [] (Fields parts s f))) (sym longer);
-      placed =
-          is
-          ∙ ap (λ l. l ++ d ∷ []) z.placed
-          ∙ ap (λ x. declarations_at (site_in tokens) n (declared list) ++ x ∷ []) p.0
-          ∙ sym (declarations_more (site_in tokens) n old (declared list) (bare_declaration d) z.at_is)
-          ∙ ap (declarations_at (site_in tokens) n) (sym longer);
+      placed = cc (is, z.placed, p.0, declarations_more (site_in tokens) n old (declared list) (bare_declaration d) z.at_is);
       at_is = omega (arith, z.at_is, p.1, e.1, ap fields_size longer, fields_size_more (declared list) (bare_declaration d));
     }
 

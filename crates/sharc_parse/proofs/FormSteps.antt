@@ -1,5 +1,5 @@
 -- The machine's steps over what follows the name of a global.
-use Rattle.sharc_parse.proofs.Imports.{◌≡◌, ℕ, List, [], ◌∷◌, None, refl, ap, true, false, Number, OpenParenthesis, OpenBracket, CloseBracket, Semicolon, Assign, Minus, Constant, Keyword, Word, keyword, mark, number, character, constant_word, Typing, Declaring, single, array, initially, Part, on_top, Named, ArrayWant, InitialWant, InitialNegative, Top, a_semicolon, a_bracket, At, declaring_of, named_top, initial_want, StuckAt, next_within, reads_within, NotAt, NoConstant, NoNumber, IsSigned, NoSigned, with_form}
+use Rattle.sharc_parse.proofs.Imports.{◌≡◌, ℕ, List, [], ◌∷◌, refl, true, false, Number, OpenParenthesis, OpenBracket, CloseBracket, Semicolon, Assign, Minus, Constant, Keyword, Word, keyword, mark, number, character, constant_word, Typing, Declaring, single, array, initially, Part, on_top, Named, ArrayWant, InitialWant, InitialNegative, Top, a_semicolon, a_bracket, At, declaring_of, StuckAt, reads_within, NotAt, NoConstant, NoNumber, IsSigned, NoSigned, with_form}
 
 pub array_number : (all : List Part) (d : Declaring) (n : Number) (y : List Word) → reads_within (number n ∷ y) (At [] (ArrayWant all d)) ≡ reads_within y (At (a_bracket ∷ (a_semicolon ∷ [])) (Top (with_form all d (array n))))
 array_number all d n y = refl
@@ -30,16 +30,12 @@ pub constant_goes : (all : List Part) (d : Declaring) (c : Constant) (y : List W
 constant_goes all d (Constant.Number n) y = refl
 constant_goes all d _ y = refl
 
-no_constant_step : (all : List Part) (d : Declaring) (t : Word) → (t ≡ mark Minus → ⊥) → ((c : Constant) → t ≡ constant_word c → ⊥) → initial_want all d t ≡ None
-no_constant_step all d (mark Minus) m h = absurd (m refl)
-no_constant_step all d (number n) m h = absurd (h (Constant.Number n) refl)
-no_constant_step all d (character n) m h = absurd (h (Constant.Character n) refl)
-no_constant_step all d (keyword Keyword.Null) m h = absurd (h Constant.Null refl)
-no_constant_step all d _ m h = refl
-
 pub no_constant : (all : List Part) (d : Declaring) (ts : List Word) → NotAt (mark Minus) ts → NoConstant ts → reads_within ts (At [] (InitialWant all d)) ≡ StuckAt ts
-no_constant all d [] m h = refl
-no_constant all d (t ∷ y) m h = ap (λ o. next_within o (λ s. reads_within y s) (t ∷ y)) (no_constant_step all d t m h)
+no_constant all d (mark Minus ∷ y) m h = absurd (m refl)
+no_constant all d (number n ∷ y) m h = absurd (h (Constant.Number n) refl)
+no_constant all d (character n ∷ y) m h = absurd (h (Constant.Character n) refl)
+no_constant all d (keyword Keyword.Null ∷ y) m h = absurd (h Constant.Null refl)
+no_constant all d _ m h = refl
 
 pub single_goes : (all : List Part) (t : Typing) (n : List ℕ) (y : List Word) → reads_within (mark Semicolon ∷ y) (At [] (Named (on_top all) t n)) ≡ reads_within y (At [] (Top (with_form all (declaring_of t n) single)))
 single_goes all t n y = refl
@@ -50,13 +46,9 @@ array_goes all t n y = refl
 pub initial_goes : (all : List Part) (t : Typing) (n : List ℕ) (y : List Word) → reads_within (mark Assign ∷ y) (At [] (Named (on_top all) t n)) ≡ reads_within y (At [] (InitialWant all (declaring_of t n)))
 initial_goes all t n y = refl
 
-no_form_step : (all : List Part) (t : Typing) (n : List ℕ) (u : Word) → (u ≡ mark Semicolon → ⊥) → (u ≡ mark OpenBracket → ⊥) → (u ≡ mark Assign → ⊥) → (u ≡ mark OpenParenthesis → ⊥) → named_top all t n u ≡ None
-no_form_step all t n (mark Semicolon) a b c d = absurd (a refl)
-no_form_step all t n (mark OpenBracket) a b c d = absurd (b refl)
-no_form_step all t n (mark Assign) a b c d = absurd (c refl)
-no_form_step all t n (mark OpenParenthesis) a b c d = absurd (d refl)
-no_form_step all t n _ a b c d = refl
-
 pub no_form : (all : List Part) (t : Typing) (n : List ℕ) (ts : List Word) → NotAt (mark Semicolon) ts → NotAt (mark OpenBracket) ts → NotAt (mark Assign) ts → NotAt (mark OpenParenthesis) ts → reads_within ts (At [] (Named (on_top all) t n)) ≡ StuckAt ts
-no_form all t n [] a b c d = refl
-no_form all t n (u ∷ y) a b c d = ap (λ o. next_within o (λ s. reads_within y s) (u ∷ y)) (no_form_step all t n u a b c d)
+no_form all t n (mark Semicolon ∷ y) a b c d = absurd (a refl)
+no_form all t n (mark OpenBracket ∷ y) a b c d = absurd (b refl)
+no_form all t n (mark Assign ∷ y) a b c d = absurd (c refl)
+no_form all t n (mark OpenParenthesis ∷ y) a b c d = absurd (d refl)
+no_form all t n _ a b c d = refl

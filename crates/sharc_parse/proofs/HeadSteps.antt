@@ -1,5 +1,5 @@
 -- The machine's steps over the head of a `for`, and over what a `return` gives.
-use Rattle.sharc_parse.proofs.{Imports.{◌≡◌, ℕ, ◌+◌, ◌≤◌, ◌<◌, List, [], ◌∷◌, Option, Some, None, refl, ap, ◌∙◌, arith, true, false, lt-leb, Semicolon, OpenParenthesis, CloseParenthesis, Token, Expr, Simple, ForFirst, view_expr, view_option, view_simple, view_first, Word, mark, Phrase, Doing, Line, Outer, inside, as_first, as_step, Cont, part, subject, Want, Have, Start, ForOpen, ForTest, ForStep, an_open, At, leave, loop, doing_end, floor, grip, StuckAt, next_within, reads_within, around_it, depth, crowded, site_in, line_size, option_size, first_at, option_at, step_at, NotAt, NoMalloc, from, Past, doing_state, EndsDoing, doing_within, line_within, line_of, ReadsLine, IsLinePlaced, Tail, by_return, by_test, tail_place, before_tail, behind_tail, ReadsTail, IsTailPlaced, step_of, ReadsStep, IsStepPlaced, ReadsHead, IsHeadPlaced, ReadingFault, Memory, option_of, Ok, Err}, Steps.{passes, fixed_goes}, RightSteps.ends_place, SimpleSteps.doing_ends}
+use Rattle.sharc_parse.proofs.{Imports.{◌≡◌, ℕ, ◌+◌, ◌≤◌, ◌<◌, List, [], ◌∷◌, Option, Some, None, refl, ap, ◌∙◌, arith, true, false, lt-leb, Semicolon, OpenParenthesis, CloseParenthesis, Token, Expr, Simple, ForFirst, view_expr, view_option, view_simple, view_first, Word, mark, Phrase, Doing, Line, Outer, inside, as_first, as_step, Cont, part, subject, Want, Have, Start, ForOpen, ForTest, ForStep, an_open, At, leave, loop, floor, grip, StuckAt, next_within, reads_within, around_it, depth, crowded, site_in, line_size, option_size, first_at, option_at, step_at, NotAt, NoMalloc, from, Past, doing_state, EndsDoing, doing_within, line_within, line_of, ReadsLine, IsLinePlaced, Tail, by_return, by_test, tail_place, before_tail, behind_tail, ReadsTail, IsTailPlaced, step_of, ReadsStep, IsStepPlaced, ReadsHead, IsHeadPlaced, ReadingFault, Memory, option_of, Ok, Err}, Steps.{passes, fixed_goes}, RightSteps.ends_place, SimpleSteps.doing_ends}
 use Rattle.sharc_tree.specs.Tree as tree
 
 -- an expression that may be left out
@@ -62,13 +62,9 @@ step_begins l e o _ n = refl
 pub step_ends : (l : Line) (e : Option Phrase) (o : Outer) (x : Doing) (ts y : List Word) → ts ≡ mark CloseParenthesis ∷ y → EndsDoing x ts → around_it o < 63 → reads_within ts (doing_state (as_step l e) o x) ≡ reads_within y (At [] (Start (inside (loop l e (Some x)) o)))
 step_ends l e o x ts y is f h = doing_ends (as_step l e) o x ts f ∙ ap (doing_within (as_step l e) x o) is ∙ closes l e (Some x) o y h
 
-step_no : (l : Line) (e : Option Phrase) (o : Outer) (x : Doing) (t : Word) → (t ≡ mark CloseParenthesis → ⊥) → doing_end (as_step l e) x o t ≡ None
-step_no l e o x (mark CloseParenthesis) n = absurd (n refl)
-step_no l e o x _ n = refl
-
 step_not : (l : Line) (e : Option Phrase) (o : Outer) (x : Doing) (ts : List Word) → NotAt (mark CloseParenthesis) ts → doing_within (as_step l e) x o ts ≡ StuckAt ts
-step_not l e o x [] n = refl
-step_not l e o x (t ∷ y) n = ap (λ v. next_within v (λ s. reads_within y s) (t ∷ y)) (step_no l e o x t n)
+step_not l e o x (mark CloseParenthesis ∷ y) n = absurd (n refl)
+step_not l e o x _ n = refl
 
 pub step_stuck : (l : Line) (e : Option Phrase) (o : Outer) (x : Doing) (ts : List Word) → EndsDoing x ts → NotAt (mark CloseParenthesis) ts → reads_within ts (doing_state (as_step l e) o x) ≡ StuckAt ts
 step_stuck l e o x ts f n = doing_ends (as_step l e) o x ts f ∙ step_not l e o x ts n
@@ -105,16 +101,11 @@ head_step_wrong _ tokens old mid next last new f x s r t z o h = head_second tok
 pub head_done : (tokens : List Token) (old mid next last new : ℕ) (f : ForFirst) (x : Option Expr) (y : Option Simple) → Past (mark OpenParenthesis) tokens old mid → ReadsLine true false (Ok f) (from tokens mid) (from tokens next) → ReadsTail (Ok x) (from tokens next) (from tokens last) → ReadsStep (Ok y) (from tokens last) (from tokens new) → ReadsHead (Ok (record { first = f; test = x; step = y })) (from tokens old) (from tokens new)
 head_done tokens old mid next last new f x y s r t z o h = head_second tokens old mid next last f x s r t o h ∙ z (line_of f) (option_of x) o h
 
-abbrev made_head : tree.First → Option tree.Expression → Option tree.Simple → tree.Head
-made_head f x y = record { first = f; test = x; step = y }
-
 pub head_placed : (tokens : List Token) (old mid next last new : ℕ) (f : ForFirst) (x : Option Expr) (y : Option Simple) → Past (mark OpenParenthesis) tokens old mid → IsLinePlaced (Ok f) tokens mid next → IsTailPlaced (Ok x) tokens next last → IsStepPlaced (Ok y) tokens last new → IsHeadPlaced (Ok (record { first = f; test = x; step = y })) tokens old new
 head_placed tokens old mid next last new f x y s a b z = λ n h.
     let first : view_first f ≡ first_at (site_in tokens) (n + 2) (line_of f) = a.0 ∙ ap (λ i. first_at (site_in tokens) i (line_of f)) (omega (arith, s.1, h)) in
     let test : view_option view_expr x ≡ option_at (site_in tokens) (n + line_size (line_of f) + 2) (option_of x) = b.0 ∙ ap (λ i. option_at (site_in tokens) i (option_of x)) (omega (arith, s.1, h, a.1)) in
     let step : view_option view_simple y ≡ step_at (site_in tokens) (n + line_size (line_of f) + option_size (option_of x) + 3) (step_of y) = z.0 ∙ ap (λ i. step_at (site_in tokens) i (step_of y)) (omega (arith, s.1, h, a.1, b.1)) in (
-      ap (λ v. made_head v (view_option view_expr x) (view_option view_simple y)) first
-          ∙ ap (λ v. made_head (first_at (site_in tokens) (n + 2) (line_of f)) v (view_option view_simple y)) test
-          ∙ ap (made_head (first_at (site_in tokens) (n + 2) (line_of f)) (option_at (site_in tokens) (n + line_size (line_of f) + 2) (option_of x))) step,
+      cc (first, test, step),
       omega (arith, s.1, h, a.1, b.1, z.1),
     )

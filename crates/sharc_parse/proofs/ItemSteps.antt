@@ -12,9 +12,7 @@ struct_stands s n first old mid new name sp fields h k named spans f m e =
     let size : new ≡ first + (fields_size (declared fields) + 5) = omega (arith, h, k, m, e) in
     let span_is : sp ≡ span_at s n (fields_size (declared fields) + 5) = spans (fields_size (declared fields) + 5) size ∙ ap (λ i. span_at s i (fields_size (declared fields) + 5)) begins in
     let fields_are : fields ≡ declarations_at s (n + 3) (declared fields) = f ∙ ap (λ i. declarations_at s i (declared fields)) (sym h) in (
-      ap (λ z. made_struct z name fields) span_is
-          ∙ ap (λ z. made_struct (span_at s n (fields_size (declared fields) + 5)) z fields) named
-          ∙ ap (λ z. made_struct (span_at s n (fields_size (declared fields) + 5)) (name_at s (n + 1) name.text) z) fields_are,
+      cc (span_is, named, fields_are),
       omega (arith, h, m, e),
     )
 

@@ -9,7 +9,6 @@ pub mod WithinLaws
 pub mod Readings
 pub mod Examples
 pub mod TreeLow
-pub mod Lengths
 pub mod Marked
 pub mod Standing
 pub mod PlacedPhrases

@@ -1,5 +1,5 @@
 -- The machine's steps over lines.
-use Rattle.sharc_parse.proofs.{Imports.{◌≡◌, ℕ, List, [], ◌∷◌, Option, Some, None, refl, sym, ap, ◌∙◌, subst, inl, inr, Bool, true, false, cond, Keyword, Assign, Semicolon, Minus, Exclamation, Tilde, Star, OpenParenthesis, Negate, Not, Complement, Dereference, ValueCall, PlaceCall, Constant, Word, name, keyword, mark, number, character, Typing, identifier, constant, Value, Doing, nothing, does, parenthesis, of_value, of_place, Outer, LinePlace, as_statement, as_first, in_line, local, naming, of_local, Cont, part, subject, beneath, fronted, Want, Have, Spawning, casting, TypeWant, Named, State, At, an_open, an_ampersand, or_else, begin_type, want, lined, local_line, line_start, may_declare, doing_end, value_end, declaring_of, named_local, StuckAt, Over, next_within, reads_within, over, crowded_line, ModeWord, BaseWord, NotAt, mode_word, HasMode, base_word, value_within, doing_state, EndsDoing, doing_within, initial_state, EndsInitial, HasBase, MeetsType, MeetsLocal, starts_operand, starts_line, line_within}, Steps.{passes, fails}, TypeSteps.{begin_bare, no_base_step}, RightSteps.value_ends, SimpleSteps.doing_ends}
+use Rattle.sharc_parse.proofs.{Imports.{◌≡◌, ℕ, List, [], ◌∷◌, Option, Some, None, refl, sym, ap, ◌∙◌, subst, inl, inr, Bool, true, false, cond, Keyword, Assign, Semicolon, Minus, Word, keyword, mark, Typing, Value, Doing, nothing, does, Outer, LinePlace, as_statement, as_first, in_line, local, naming, of_local, Cont, part, subject, Want, TypeWant, Named, State, At, or_else, begin_type, want, lined, local_line, line_start, may_declare, declaring_of, StuckAt, Over, next_within, reads_within, over, crowded_line, ModeWord, BaseWord, NotAt, mode_word, HasMode, base_word, value_within, doing_state, EndsDoing, doing_within, initial_state, EndsInitial, HasBase, MeetsType, MeetsLocal, starts_operand, starts_line, line_within, Exclamation, Tilde, Star, OpenParenthesis, Negate, Not, Complement, Dereference, ValueCall, PlaceCall, Constant, name, number, character, identifier, constant, parenthesis, of_value, of_place, beneath, fronted, Have, Spawning, casting, an_open, an_ampersand}, Steps.{passes, fails}, TypeSteps.{begin_bare, no_base_step}, RightSteps.value_ends, SimpleSteps.doing_ends}
 
 -- types
 
@@ -13,19 +13,12 @@ abbrev both : LinePlace → Outer → Word → Bool → Option State
 both p o t b = or_else (cond b (begin_type (naming (local p o)) t) None) (want (part (subject (in_line p)) o) t)
 
 mode_word_starts : (p : LinePlace) (o : Outer) (w : ModeWord) → may_declare p o ≡ true → line_start p o (mode_word w) ≡ begin_type (naming (local p o)) (mode_word w)
-mode_word_starts p o ModeWord.Private e = ap (both p o (keyword Keyword.Private)) e
-mode_word_starts p o ModeWord.Readonly e = ap (both p o (keyword Keyword.Readonly)) e
-mode_word_starts p o ModeWord.Racy e = ap (both p o (keyword Keyword.Racy)) e
-mode_word_starts p o ModeWord.Dynamic e = ap (both p o (keyword Keyword.Dynamic)) e
-mode_word_starts p o ModeWord.Locked e = ap (both p o (keyword Keyword.Locked)) e
+mode_word_starts p o ModeWord.Racy e = rw e refl
+mode_word_starts p o _ e = rw e refl
 
 base_word_starts : (p : LinePlace) (o : Outer) (w : BaseWord) → may_declare p o ≡ true → line_start p o (base_word w) ≡ begin_type (naming (local p o)) (base_word w)
-base_word_starts p o BaseWord.Int e = ap (both p o (keyword Keyword.Int)) e
-base_word_starts p o BaseWord.Char e = ap (both p o (keyword Keyword.Char)) e
-base_word_starts p o BaseWord.Long e = ap (both p o (keyword Keyword.Long)) e
-base_word_starts p o BaseWord.Mutex e = ap (both p o (keyword Keyword.Mutex)) e
-base_word_starts p o BaseWord.Void e = ap (both p o (keyword Keyword.Void)) e
-base_word_starts p o BaseWord.Struct e = ap (both p o (keyword Keyword.Struct)) e
+base_word_starts p o BaseWord.Int e = rw e refl
+base_word_starts p o _ e = rw e refl
 
 type_starts : (p : LinePlace) (o : Outer) (ts : List Word) → may_declare p o ≡ true → MeetsType true ts → line_within p o ts ≡ reads_within ts (At [] (TypeWant (naming (local p o))))
 type_starts p o [] e (inl h) = absurd h
@@ -116,10 +109,6 @@ other_crowded declares p o t y i e h c =
 crowded_whole : (declares : Bool) (p : LinePlace) (o : Outer) (ts : List Word) → may_declare p o ≡ declares → MeetsLocal declares false ts → crowded_line p o ≡ true → line_within p o ts ≡ cond (starts_line ts) (Over ts) (StuckAt ts)
 crowded_whole declares p o [] e h c = refl
 crowded_whole declares p o (mark Semicolon ∷ y) e h c = fails (lined p nothing o) y (mark Semicolon ∷ y) (empty_over p o ∙ c)
-crowded_whole declares p o (name n ∷ y) e h c = other_crowded declares p o (name n) y tt e h c
-crowded_whole declares p o (number n ∷ y) e h c = other_crowded declares p o (number n) y tt e h c
-crowded_whole declares p o (character n ∷ y) e h c = other_crowded declares p o (character n) y tt e h c
-crowded_whole declares p o (keyword n ∷ y) e h c = other_crowded declares p o (keyword n) y tt e h c
 crowded_whole declares p o (t ∷ y) e h c = other_crowded declares p o t y tt e h c
 
 pub line_deep : (declares : Bool) (p : LinePlace) (o : Outer) (ts : List Word) → may_declare p o ≡ declares → MeetsLocal declares false ts → crowded_line p o ≡ true → starts_line ts ≡ true → line_within p o ts ≡ Over ts
@@ -137,13 +126,9 @@ simple_done as_first o x y = refl
 pub simple_ends : (p : LinePlace) (o : Outer) (x : Doing) (ts y : List Word) → ts ≡ mark Semicolon ∷ y → EndsDoing x ts → reads_within ts (doing_state (in_line p) o x) ≡ reads_within y (lined p (does x) o)
 simple_ends p o x ts y is e = doing_ends (in_line p) o x ts e ∙ ap (doing_within (in_line p) x o) is ∙ simple_done p o x y
 
-doing_no : (p : LinePlace) (x : Doing) (o : Outer) (t : Word) → (t ≡ mark Semicolon → ⊥) → doing_end (in_line p) x o t ≡ None
-doing_no p x o (mark Semicolon) n = absurd (n refl)
-doing_no p x o _ n = refl
-
 simple_not : (p : LinePlace) (o : Outer) (x : Doing) (ts : List Word) → NotAt (mark Semicolon) ts → doing_within (in_line p) x o ts ≡ StuckAt ts
-simple_not p o x [] n = refl
-simple_not p o x (t ∷ y) n = ap (λ v. next_within v (λ s. reads_within y s) (t ∷ y)) (doing_no p x o t n)
+simple_not p o x (mark Semicolon ∷ y) n = absurd (n refl)
+simple_not p o x _ n = refl
 
 pub simple_stuck : (p : LinePlace) (o : Outer) (x : Doing) (ts : List Word) → EndsDoing x ts → NotAt (mark Semicolon) ts → reads_within ts (doing_state (in_line p) o x) ≡ StuckAt ts
 simple_stuck p o x ts e n = doing_ends (in_line p) o x ts e ∙ simple_not p o x ts n
@@ -160,22 +145,14 @@ pub local_ends : (p : LinePlace) (o : Outer) (t : Typing) (n : List ℕ) (r : Op
 local_ends p o t n None ts y is e = ap (λ ts. reads_within ts (At [] (Named (local p o) t n))) is ∙ bare_done p o t n y
 local_ends p o t n (Some r) ts y is e = value_ends (of_local p (declaring_of t n)) o r ts e ∙ ap (value_within (of_local p (declaring_of t n)) r o) is ∙ local_done p o t n r y
 
-value_no : (p : LinePlace) (o : Outer) (t : Typing) (n : List ℕ) (r : Value) (u : Word) → (u ≡ mark Semicolon → ⊥) → value_end (of_local p (declaring_of t n)) r o u ≡ None
-value_no p o t n r (mark Semicolon) h = absurd (h refl)
-value_no p o t n r _ h = refl
-
 value_not : (p : LinePlace) (o : Outer) (t : Typing) (n : List ℕ) (r : Value) (ts : List Word) → NotAt (mark Semicolon) ts → value_within (of_local p (declaring_of t n)) r o ts ≡ StuckAt ts
-value_not p o t n r [] h = refl
-value_not p o t n r (u ∷ y) h = ap (λ v. next_within v (λ s. reads_within y s) (u ∷ y)) (value_no p o t n r u h)
-
-bare_no : (p : LinePlace) (o : Outer) (t : Typing) (n : List ℕ) (u : Word) → (u ≡ mark Assign → ⊥) → (u ≡ mark Semicolon → ⊥) → named_local p o (declaring_of t n) u ≡ None
-bare_no p o t n (mark Assign) a h = absurd (a refl)
-bare_no p o t n (mark Semicolon) a h = absurd (h refl)
-bare_no p o t n _ a h = refl
+value_not p o t n r (mark Semicolon ∷ y) h = absurd (h refl)
+value_not p o t n r _ h = refl
 
 bare_not : (p : LinePlace) (o : Outer) (t : Typing) (n : List ℕ) (ts : List Word) → NotAt (mark Assign) ts → NotAt (mark Semicolon) ts → reads_within ts (At [] (Named (local p o) t n)) ≡ StuckAt ts
-bare_not p o t n [] a h = refl
-bare_not p o t n (u ∷ y) a h = ap (λ v. next_within v (λ s. reads_within y s) (u ∷ y)) (bare_no p o t n u a h)
+bare_not p o t n (mark Assign ∷ y) a h = absurd (a refl)
+bare_not p o t n (mark Semicolon ∷ y) a h = absurd (h refl)
+bare_not p o t n _ a h = refl
 
 pub local_stuck : (p : LinePlace) (o : Outer) (t : Typing) (n : List ℕ) (r : Option Value) (ts : List Word) → EndsInitial r ts → NotAt (mark Semicolon) ts → reads_within ts (initial_state p o t n r) ≡ StuckAt ts
 local_stuck p o t n None ts e h = bare_not p o t n ts e h

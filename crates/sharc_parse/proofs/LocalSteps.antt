@@ -1,8 +1,5 @@
 -- The machine's steps over declarations.
-use Rattle.sharc_parse.proofs.{Imports.{◌≡◌, ℕ, ◌+◌, List, [], ◌∷◌, Option, None, refl, ap, ◌∙◌, Bool, true, false, map, Ok, Site, Span, Assign, Star, Comma, CloseParenthesis, OpenBrace, Base, WrittenType, Declaration, Word, name, mark, Sharing, Typing, Part, Outer, LinePlace, NamePlace, on_top, parameter_of, local, naming, of_local, part, valued, Want, Named, At, typed, close_type, open_type, declaring_of, StuckAt, next_within, reads_within, span_at, type_size, type_at, declaring_size, declaration_at, bare_level, bare_type, bare_declaration, NoName, EndsLevel, EndsLevels, EndsType, typed_levels, typed_state, void_type, struct_type, IsPlainAt, IsPlainPlace}, TypeSteps.no_level}
-
-abbrev typing_with : Bool → Base → List (Option Sharing) → Typing
-typing_with first b levels = record { mode_first = first; base = b; levels = levels }
+use Rattle.sharc_parse.proofs.{Imports.{◌≡◌, ℕ, ◌+◌, List, [], ◌∷◌, Option, None, refl, ap, ◌∙◌, Bool, true, false, map, Ok, Site, Span, Assign, Star, Comma, CloseParenthesis, OpenBrace, Base, WrittenType, Declaration, Word, name, mark, Sharing, Typing, Part, Outer, LinePlace, NamePlace, on_top, parameter_of, local, naming, of_local, part, valued, Want, Named, At, close_type, open_type, declaring_of, StuckAt, next_within, reads_within, span_at, type_size, type_at, declaring_size, declaration_at, bare_level, bare_type, bare_declaration, NoName, EndsLevels, EndsType, typed_levels, typed_state, void_type, struct_type, IsPlainAt, IsPlainPlace}, TypeSteps.{no_level, typing_with}}
 
 name_levels : (p : NamePlace) (first : Bool) (b : Base) (levels : List (Option Sharing)) (n : List ℕ) (y all : List Word) → EndsLevels true levels all → reads_within (name n ∷ y) (typed_levels (naming p) first b levels) ≡ reads_within y (At [] (Named p (typing_with first b levels) n))
 name_levels p first b [] n y all e = absurd e
@@ -28,18 +25,15 @@ open_none : (p : NamePlace) (first : Bool) (b : Base) (m : Option Sharing) (belo
 open_none (on_top all) first b m below y h = no_open all first b m below (λ x e. h x e refl)
 open_none _ first b m below y h = refl
 
-named_ends : (p : NamePlace) (first : Bool) (b : Base) (m : Option Sharing) (below : List (Option Sharing)) (t : Word) (y : List Word) → EndsLevel true m (t ∷ y) → (t ≡ mark Star → ⊥) → NoName (t ∷ y) → IsPlainAt p (typing_with first b (m ∷ below)) (t ∷ y) → typed (naming p) first b m below t ≡ None
-named_ends p first b m below (mark Star) y e s n h = absurd (s refl)
-named_ends p first b m below (name x) y e s n h = absurd n
-named_ends p first b m below (mark Comma) y e s n h = refl
-named_ends p first b m below (mark CloseParenthesis) y e s n h = close_none p first b m below y h
-named_ends p first b m below (mark OpenBrace) y e s n h = open_none p first b m below y h
-named_ends p first b m below t y e s n h = no_level (naming p) first b m below t y refl e
-
 stuck_levels : (p : NamePlace) (first : Bool) (b : Base) (levels : List (Option Sharing)) (ts : List Word) → EndsLevels true levels ts → NoName ts → IsPlainAt p (typing_with first b levels) ts → reads_within ts (typed_levels (naming p) first b levels) ≡ StuckAt ts
 stuck_levels p first b [] ts e n h = absurd e
 stuck_levels p first b (m ∷ below) [] e n h = refl
-stuck_levels p first b (m ∷ below) (t ∷ y) e n h = ap (λ o. next_within o (λ s. reads_within y s) (t ∷ y)) (named_ends p first b m below t y e.0 e.1 n h)
+stuck_levels p first b (m ∷ below) (mark Star ∷ y) e n h = absurd (e.1 refl)
+stuck_levels p first b (m ∷ below) (name x ∷ y) e n h = absurd n
+stuck_levels p first b (m ∷ below) (mark Comma ∷ y) e n h = refl
+stuck_levels p first b (m ∷ below) (mark CloseParenthesis ∷ y) e n h = ap (λ o. next_within o (λ s. reads_within y s) (mark CloseParenthesis ∷ y)) (close_none p first b m below y h)
+stuck_levels p first b (m ∷ below) (mark OpenBrace ∷ y) e n h = ap (λ o. next_within o (λ s. reads_within y s) (mark OpenBrace ∷ y)) (open_none p first b m below y h)
+stuck_levels p first b (m ∷ below) (t ∷ y) e n h = ap (λ o. next_within o (λ s. reads_within y s) (t ∷ y)) (no_level (naming p) first b m below t y refl e.0)
 
 -- the name is missing
 pub no_name_there : (p : NamePlace) (t : WrittenType) (ts : List Word) → EndsType true (Ok t) ts → NoName ts → IsPlainAt p (bare_type t) ts → reads_within ts (typed_state (naming p) (bare_type t)) ≡ StuckAt ts

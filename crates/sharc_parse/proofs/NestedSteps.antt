@@ -1,5 +1,5 @@
 -- The machine's steps over statements with others inside, and where they are.
-use Rattle.sharc_parse.proofs.{Imports.{◌≡◌, ℕ, ◌+◌, ◌-◌, ◌≤◌, ◌<◌, List, [], ◌∷◌, ◌++◌, Some, refl, sym, ap, ◌∙◌, arith, Bool, true, false, cond, lt-leb, le-leb, false≢true, true≢false, Result, Ok, Err, view_statements-push, view_stmt, view_statements, Token, Site, Span, OpenBrace, CloseBrace, Stmt, Keyword, Word, keyword, mark, Phrase, Loop, Sentence, under, Sentences, no_more, sentence, if_of, else_of, Opening, while_of, for_of, Outer, body, items, inside, as_statement, Start, Done, At, start, line_start, done, is_else, holds_items, with_item, Over, next_within, reads_within, around_it, site_in, size, sentence_size, all_size, opening_size, span_at, expression_at, head_at, statement_at, statements_at, ReadingFault, Memory, bare, from, Past, NotAt, IsAt, line_within, StatementWord, If, While, For, Return, Break, Continue, statement_word, NoStatement, bare_head, bare_statement, sentence_of, sentences_of, ReadsStatement, BuildsStatement, IsRestPlaced, IsOpen, holding, closed, ReadsStatements}, Steps.{passes, fails}, WordSteps.line_there, PlainSteps.over_statement}
+use Rattle.sharc_parse.proofs.{Imports.{◌≡◌, ℕ, ◌+◌, ◌-◌, ◌≤◌, ◌<◌, List, [], ◌∷◌, ◌++◌, refl, sym, ap, ◌∙◌, arith, Bool, true, false, lt-leb, le-leb, false≢true, true≢false, Result, Ok, Err, view_statements-push, view_stmt, view_statements, Token, Site, Span, OpenBrace, CloseBrace, Stmt, Keyword, Word, keyword, mark, Phrase, Loop, Sentence, under, Sentences, no_more, sentence, if_of, else_of, while_of, for_of, Outer, body, items, inside, as_statement, Start, Done, At, holds_items, with_item, Over, reads_within, around_it, site_in, size, sentence_size, all_size, opening_size, span_at, expression_at, head_at, statement_at, statements_at, ReadingFault, Memory, bare, from, Past, NotAt, IsAt, line_within, If, While, For, Return, Break, Continue, NoStatement, bare_head, bare_statement, sentence_of, sentences_of, ReadsStatement, BuildsStatement, IsRestPlaced, IsOpen, holding, closed, ReadsStatements}, Steps.{passes, deep}, WordSteps.line_there, PlainSteps.over_statement}
 use Rattle.sharc_tree.specs.Tree as tree
 
 -- blocks
@@ -10,11 +10,7 @@ block_opens o room ts y is e h =
     ∙ passes (At [] (Start (items no_more o))) y (mark OpenBrace ∷ y) (lt-leb 64 (around_it o) (omega (arith, e, h)))
 
 pub block_deep : (o : Outer) (room : ℕ) (ts : List Word) → IsAt (mark OpenBrace) ts → around_it o + room ≡ 64 → room ≡ 0 → reads_within ts (At [] (Start o)) ≡ Over ts
-block_deep o room [] a e h = absurd a
-block_deep o room (t ∷ y) a e h =
-    ap (λ u. reads_within (u ∷ y) (At [] (Start o))) a
-    ∙ fails (At [] (Start (items no_more o))) y (mark OpenBrace ∷ y) (le-leb 64 (around_it o) (omega (arith, e, h)))
-    ∙ ap (λ u. Over (u ∷ y)) (sym a)
+block_deep o room ts a e h = deep (Start o) (mark OpenBrace) (At [] (Start (items no_more o))) ts a refl (le-leb 64 (around_it o) (omega (arith, e, h)))
 
 pub block_closes : (o : Outer) (s : Sentences) (ts y : List Word) → ts ≡ mark CloseBrace ∷ y → holds_items o ≡ true → reads_within ts (At [] (Start (holding o s))) ≡ reads_within y (closed o s)
 block_closes (body before r f given all) s ts y is h = ap (λ ts. reads_within ts (At [] (Start (body before r f given s)))) is
@@ -22,20 +18,16 @@ block_closes (items all o) s ts y is h = ap (λ ts. reads_within ts (At [] (Star
 block_closes (inside w o) s ts y is h = absurd (false≢true h)
 
 -- inside another statement a `}` begins no line
-inside_step : (w : Opening) (o : Outer) (t : Word) → ((w : StatementWord) → t ≡ statement_word w → ⊥) → (t ≡ mark OpenBrace → ⊥) → start (inside w o) t ≡ line_start as_statement (inside w o) t
-inside_step w o (keyword Keyword.If) h a = absurd (h If refl)
-inside_step w o (keyword Keyword.While) h a = absurd (h While refl)
-inside_step w o (keyword Keyword.For) h a = absurd (h For refl)
-inside_step w o (keyword Keyword.Return) h a = absurd (h Return refl)
-inside_step w o (keyword Keyword.Break) h a = absurd (h Break refl)
-inside_step w o (keyword Keyword.Continue) h a = absurd (h Continue refl)
-inside_step w o (mark OpenBrace) h a = absurd (a refl)
-inside_step w o _ h a = refl
-
 line_inside : (o : Outer) (ts : List Word) → holds_items o ≡ false → NoStatement ts → NotAt (mark OpenBrace) ts → reads_within ts (At [] (Start o)) ≡ line_within as_statement o ts
-line_inside o [] h n a = refl
-line_inside (inside w o) (t ∷ y) h n a = ap (λ z. next_within z (λ s. reads_within y s) (t ∷ y)) (inside_step w o t n a)
-line_inside _ (t ∷ y) h n a = absurd (true≢false h)
+line_inside (inside w o) (keyword Keyword.If ∷ y) h n a = absurd (n If refl)
+line_inside (inside w o) (keyword Keyword.While ∷ y) h n a = absurd (n While refl)
+line_inside (inside w o) (keyword Keyword.For ∷ y) h n a = absurd (n For refl)
+line_inside (inside w o) (keyword Keyword.Return ∷ y) h n a = absurd (n Return refl)
+line_inside (inside w o) (keyword Keyword.Break ∷ y) h n a = absurd (n Break refl)
+line_inside (inside w o) (keyword Keyword.Continue ∷ y) h n a = absurd (n Continue refl)
+line_inside (inside w o) (mark OpenBrace ∷ y) h n a = absurd (a refl)
+line_inside (inside w o) _ h n a = refl
+line_inside _ ts h n a = absurd (true≢false h)
 
 -- any other statement is a line
 pub line_anywhere : (may : Bool) (o : Outer) (ts : List Word) → holds_items o ≡ may → IsOpen may ts → NoStatement ts → NotAt (mark OpenBrace) ts → reads_within ts (At [] (Start o)) ≡ line_within as_statement o ts
@@ -49,13 +41,9 @@ else_goes e s o room ts y is h r =
     ap (λ ts. reads_within ts (At [] (Done s (inside (if_of e) o)))) is
     ∙ passes (At [] (Start (inside (else_of e s) o))) y (keyword Keyword.Else ∷ y) (lt-leb 63 (around_it o) (omega (arith, h, r)))
 
-no_else : (t : Word) → (t ≡ keyword Keyword.Else → ⊥) → is_else t ≡ false
-no_else (keyword Keyword.Else) n = absurd (n refl)
-no_else _ n = refl
-
 pub if_ends : (e : Phrase) (s : Sentence) (o : Outer) (ts : List Word) → NotAt (keyword Keyword.Else) ts → reads_within ts (At [] (Done s (inside (if_of e) o))) ≡ reads_within ts (At [] (Done (under (if_of e) s) o))
-if_ends e s o [] n = refl
-if_ends e s o (t ∷ y) n = ap (λ b. next_within (cond b (Some (At [] (Start (inside (else_of e s) o)))) (done (under (if_of e) s) o t)) (λ z. reads_within y z) (t ∷ y)) (no_else t n)
+if_ends e s o (keyword Keyword.Else ∷ y) n = absurd (n refl)
+if_ends e s o _ n = refl
 
 pub else_ends : (e : Phrase) (a s : Sentence) (o : Outer) (ts : List Word) → reads_within ts (At [] (Done s (inside (else_of e a) o))) ≡ reads_within ts (At [] (Done (under (else_of e a) s) o))
 else_ends e a s o [] = refl
@@ -79,29 +67,16 @@ rest_placed (Ok s) tokens n old new x b h stands size = λ m e.
 rest_placed (Err x) tokens n old new y b h stands size = tt
 
 pub if_stands : (s : ℕ → Site) (n m : ℕ) (sp : Span) (e : tree.Expression) (a : tree.Statement) → sp ≡ span_at s n (size (bare e) + 3 + sentence_size (bare_statement a)) → e ≡ expression_at s (n + 2) (bare e) → a ≡ statement_at s m (bare_statement a) → m ≡ n + (size (bare e) + 3) → tree.if_then sp e a ≡ statement_at s n (bare_statement (tree.if_then sp e a))
-if_stands s n m sp e a b c d f =
-    ap (λ z. tree.if_then z e a) b
-    ∙ ap (λ z. tree.if_then (span_at s n (size (bare e) + 3 + sentence_size (bare_statement a))) z a) c
-    ∙ ap (tree.if_then (span_at s n (size (bare e) + 3 + sentence_size (bare_statement a))) (expression_at s (n + 2) (bare e))) (d ∙ ap (λ i. statement_at s i (bare_statement a)) f)
+if_stands s n m sp e a b c d f = cc
 
 pub while_stands : (s : ℕ → Site) (n m : ℕ) (sp : Span) (e : tree.Expression) (a : tree.Statement) → sp ≡ span_at s n (size (bare e) + 3 + sentence_size (bare_statement a)) → e ≡ expression_at s (n + 2) (bare e) → a ≡ statement_at s m (bare_statement a) → m ≡ n + (size (bare e) + 3) → tree.while sp e a ≡ statement_at s n (bare_statement (tree.while sp e a))
-while_stands s n m sp e a b c d f =
-    ap (λ z. tree.while z e a) b
-    ∙ ap (λ z. tree.while (span_at s n (size (bare e) + 3 + sentence_size (bare_statement a))) z a) c
-    ∙ ap (tree.while (span_at s n (size (bare e) + 3 + sentence_size (bare_statement a))) (expression_at s (n + 2) (bare e))) (d ∙ ap (λ i. statement_at s i (bare_statement a)) f)
+while_stands s n m sp e a b c d f = cc
 
 pub for_stands : (s : ℕ → Site) (n m : ℕ) (sp : Span) (h : tree.Head) (a : tree.Statement) → sp ≡ span_at s n (opening_size (for_of (bare_head h)) + sentence_size (bare_statement a)) → h ≡ head_at s n (bare_head h) → a ≡ statement_at s m (bare_statement a) → m ≡ n + opening_size (for_of (bare_head h)) → tree.for sp h a ≡ statement_at s n (bare_statement (tree.for sp h a))
-for_stands s n m sp h a b c d f =
-    ap (λ z. tree.for z h a) b
-    ∙ ap (λ z. tree.for (span_at s n (opening_size (for_of (bare_head h)) + sentence_size (bare_statement a))) z a) c
-    ∙ ap (tree.for (span_at s n (opening_size (for_of (bare_head h)) + sentence_size (bare_statement a))) (head_at s n (bare_head h))) (d ∙ ap (λ i. statement_at s i (bare_statement a)) f)
+for_stands s n m sp h a b c d f = cc
 
 pub else_stands : (s : ℕ → Site) (n m k : ℕ) (sp : Span) (e : tree.Expression) (a b : tree.Statement) → sp ≡ span_at s n (size (bare e) + sentence_size (bare_statement a) + 4 + sentence_size (bare_statement b)) → e ≡ expression_at s (n + 2) (bare e) → a ≡ statement_at s m (bare_statement a) → m ≡ n + size (bare e) + 3 → b ≡ statement_at s k (bare_statement b) → k ≡ n + (size (bare e) + sentence_size (bare_statement a) + 4) → tree.if_then_else sp e a b ≡ statement_at s n (bare_statement (tree.if_then_else sp e a b))
-else_stands s n m k sp e a b w c d f g h =
-    ap (λ z. tree.if_then_else z e a b) w
-    ∙ ap (λ z. tree.if_then_else (span_at s n (size (bare e) + sentence_size (bare_statement a) + 4 + sentence_size (bare_statement b))) z a b) c
-    ∙ ap (λ z. tree.if_then_else (span_at s n (size (bare e) + sentence_size (bare_statement a) + 4 + sentence_size (bare_statement b))) (expression_at s (n + 2) (bare e)) z b) (d ∙ ap (λ i. statement_at s i (bare_statement a)) f)
-    ∙ ap (tree.if_then_else (span_at s n (size (bare e) + sentence_size (bare_statement a) + 4 + sentence_size (bare_statement b))) (expression_at s (n + 2) (bare e)) (statement_at s (n + size (bare e) + 3) (bare_statement a))) (g ∙ ap (λ i. statement_at s i (bare_statement b)) h)
+else_stands s n m k sp e a b w c d f g h = cc
 
 -- a block, from its `{` on
 
@@ -168,13 +143,7 @@ one_statement_more room tokens n old new list all s is z r p q =
           ∙ r (holding o (sentences_of list)) (holding_holds o (sentences_of list) ∙ h) (ap (λ a. a + room) (holding_around o (sentences_of list)) ∙ e)
           ∙ item_done o (sentences_of list) (sentence_of s) (from tokens new) h
           ∙ ap (λ f. reads_within (from tokens new) (At [] (Start (holding o f)))) (sym longer);
-      placed =
-          ap view_statements is
-          ∙ view_statements-push list s
-          ∙ ap (λ v. tree.with_statement v (view_stmt s)) z.placed
-          ∙ ap (tree.with_statement (statements_at (site_in tokens) n (sentences_of list))) p
-          ∙ sym (statements_more (site_in tokens) n old (sentences_of list) (sentence_of s) z.at_is)
-          ∙ ap (statements_at (site_in tokens) n) (sym longer);
+      placed = cc (is, z.placed, p, view_statements-push list s, statements_more (site_in tokens) n old (sentences_of list) (sentence_of s) z.at_is);
       at_is = omega (arith, z.at_is, q, ap all_size longer, all_size_more (sentences_of list) (sentence_of s));
     }
 

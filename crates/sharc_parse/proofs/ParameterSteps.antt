@@ -1,5 +1,5 @@
 -- The machine's steps over the parameters of a function.
-use Rattle.sharc_parse.proofs.{Imports.{◌≡◌, ℕ, ◌+◌, List, [], ◌∷◌, ◌++◌, Some, None, refl, sym, ap, ◌∙◌, arith, Ok, Err, Token, Comma, CloseParenthesis, Declaration, Word, mark, Typing, Declaring, Part, no_more, body, parameter_of, naming, TypeWant, Named, Start, a_brace, At, with_declaring, named_parameter, StuckAt, next_within, reads_within, site_in, fields_size, declaring_size, declarations_at, parameters_size, ReadingFault, Memory, Wrong, bare_declaration, NotAt, from, Past, IsPlainPlace, ReadsDeclaration, IsDeclarationPlaced, declared, ReadsFirst, IsFirstPlaced, ReadsParameters, AreParametersPlaced}, FieldSteps.{declared_more, fields_size_more, declarations_more}}
+use Rattle.sharc_parse.proofs.{Imports.{◌≡◌, ℕ, ◌+◌, List, [], ◌∷◌, ◌++◌, Some, refl, sym, ap, ◌∙◌, arith, Ok, Err, Token, Comma, CloseParenthesis, Declaration, Word, mark, Typing, Declaring, Part, no_more, body, parameter_of, naming, TypeWant, Named, Start, a_brace, At, with_declaring, StuckAt, reads_within, site_in, fields_size, declaring_size, declarations_at, parameters_size, ReadingFault, Memory, Wrong, bare_declaration, NotAt, from, Past, IsPlainPlace, ReadsDeclaration, IsDeclarationPlaced, declared, ReadsFirst, IsFirstPlaced, ReadsParameters, AreParametersPlaced}, FieldSteps.{declared_more, fields_size_more, declarations_more}}
 
 parameter_goes : (all : List Part) (r : Typing) (f : List ℕ) (before : List Declaring) (d : Declaring) (ts y : List Word) → ts ≡ mark Comma ∷ y → reads_within ts (At [] (Named (parameter_of all r f before) d.typing d.named)) ≡ reads_within y (At [] (TypeWant (naming (parameter_of all r f (with_declaring before d)))))
 parameter_goes all r f before d ts y e = ap (λ ts. reads_within ts (At [] (Named (parameter_of all r f before) d.typing d.named))) e
@@ -7,14 +7,10 @@ parameter_goes all r f before d ts y e = ap (λ ts. reads_within ts (At [] (Name
 parameters_end : (all : List Part) (r : Typing) (f : List ℕ) (before : List Declaring) (d : Declaring) (ts y : List Word) → ts ≡ mark CloseParenthesis ∷ y → reads_within ts (At [] (Named (parameter_of all r f before) d.typing d.named)) ≡ reads_within y (At (a_brace ∷ []) (Start (body all r f (with_declaring before d) no_more)))
 parameters_end all r f before d ts y e = ap (λ ts. reads_within ts (At [] (Named (parameter_of all r f before) d.typing d.named))) e
 
-no_parameter_end : (all : List Part) (r : Typing) (f : List ℕ) (before : List Declaring) (d : Declaring) (t : Word) → (t ≡ mark Comma → ⊥) → (t ≡ mark CloseParenthesis → ⊥) → named_parameter all r f before d t ≡ None
-no_parameter_end all r f before d (mark Comma) n m = absurd (n refl)
-no_parameter_end all r f before d (mark CloseParenthesis) n m = absurd (m refl)
-no_parameter_end all r f before d _ n m = refl
-
 parameter_stuck : (all : List Part) (r : Typing) (f : List ℕ) (before : List Declaring) (d : Declaring) (ts : List Word) → NotAt (mark Comma) ts → NotAt (mark CloseParenthesis) ts → reads_within ts (At [] (Named (parameter_of all r f before) d.typing d.named)) ≡ StuckAt ts
-parameter_stuck all r f before d [] n m = refl
-parameter_stuck all r f before d (t ∷ y) n m = ap (λ o. next_within o (λ s. reads_within y s) (t ∷ y)) (no_parameter_end all r f before d t n m)
+parameter_stuck all r f before d (mark Comma ∷ y) n m = absurd (n refl)
+parameter_stuck all r f before d (mark CloseParenthesis ∷ y) n m = absurd (m refl)
+parameter_stuck all r f before d _ n m = refl
 
 -- after another parameter only a name may follow the type
 plain_parameter : (all : List Part) (r : Typing) (f : List ℕ) (before : List Declaring) (d : Declaring) → IsPlainPlace (parameter_of all r f (with_declaring before d))
@@ -58,12 +54,7 @@ one_given_more tokens n old mid new list all d is z e r p =
       last = bare_declaration d;
       are = longer ∙ ap (λ l. with_declaring l (bare_declaration d)) z.are;
       reads = λ parts t f. given_comma tokens n old mid list z e parts t f ∙ r (parameter_of parts t f (with_declaring z.before z.last)) (plain_parameter parts t f z.before z.last);
-      placed =
-          is
-          ∙ ap (λ l. l ++ d ∷ []) z.placed
-          ∙ ap (λ x. declarations_at (site_in tokens) n (declared list) ++ x ∷ []) p.0
-          ∙ sym (declarations_more (site_in tokens) n mid (declared list) (bare_declaration d) there)
-          ∙ ap (declarations_at (site_in tokens) n) (sym longer);
+      placed = cc (is, z.placed, p.0, declarations_more (site_in tokens) n mid (declared list) (bare_declaration d) there);
       at_is = omega (arith, z.at_is, e.1, p.1, size);
     }
 

@@ -1,5 +1,5 @@
 -- The tree of an expression lies at its tokens.
-use Rattle.sharc_parse.proofs.{Imports.{◌≡◌, ℕ, ◌+◌, ◌≤◌, ◌<◌, List, [], ◌∷◌, length, Option, Some, None, IfSome, refl, arith, Bool, true, false, span_of, name_marks, type_marks, declaration_marks, declarations_marks, marks, arguments_marks, option_marks, AreMarks, point, option_spans, argument_spans, declaration_spans, PlacedType, PlacedDeclaration, PlacedDeclarations, Placed, AllPlaced, Site, Span, Token, Base, PlaceCall, Sharing, Typing, Declaring, Front, parenthesis, of_spawn, of_place, of_cast, Phrase, identifier, constant, enclosed, call, index, field, unary, binary, Phrases, none, more, FitsList, FitsType, FitsFront, Fits, FitAll, FitsOption, FitAllDeclaring, span_at, name_at, level_size, base_size, levels_size, type_size, declaring_size, front_size, size, sizes, rest_size, option_size, fields_size, base_name, base_place, type_at, declaration_at, front_at, expression_at, arguments_at, option_at, declarations_at}, Marks.{left, right}, Standing.{Standing, Lies, lies, lies_point, Row, part, last, whole}}
+use Rattle.sharc_parse.proofs.{Imports.{◌≡◌, ℕ, ◌+◌, ◌≤◌, ◌<◌, List, [], ◌∷◌, length, Option, Some, None, IfSome, refl, arith, Bool, true, false, span_of, name_marks, type_marks, declaration_marks, declarations_marks, marks, arguments_marks, option_marks, AreMarks, point, option_spans, argument_spans, declaration_spans, PlacedType, PlacedDeclaration, PlacedDeclarations, Placed, AllPlaced, Site, Span, Token, Base, Sharing, Typing, Declaring, Front, of_spawn, of_cast, Phrase, identifier, constant, enclosed, call, index, field, unary, binary, Phrases, none, more, FitsList, FitsType, FitsFront, Fits, FitAll, FitsOption, FitAllDeclaring, span_at, name_at, level_size, base_size, levels_size, type_size, declaring_size, front_size, size, sizes, rest_size, option_size, fields_size, base_name, base_place, type_at, declaration_at, front_at, expression_at, arguments_at, option_at, declarations_at}, Marks.{left, right}, Standing.{Standing, Lies, lies, lies_point, Row, part, last, whole}}
 use Rattle.sharc_tree.specs.Tree as tree
 
 -- types
@@ -82,9 +82,6 @@ behind_front all s n span (of_cast t) e w = right all (type_marks (type_at s (n 
 behind_front all s n span _ e w = w
 
 placed_front : (all : List Token) (s : ℕ → Site) (h : Standing all s) (n : ℕ) (f : Front) (a : Phrase) → FitsFront f → n + size (enclosed f a) ≤ length all → AreMarks all (marks (expression_at s n (enclosed f a))) → Placed all (expression_at s (n + front_size f) a) → Placed all (expression_at s n (enclosed f a))
-placed_front all s h n parenthesis a f q w p =
-    let k = 1 + size a + 1 in
-    (whole all s h n k _ (omega arith) q (last_part all s h n (n + 1) (n + k) a (omega arith) (omega arith) q), p)
 placed_front all s h n (of_spawn x) a f q w p =
     let k = 4 + size a + 1 in (
       whole all s h n k _ (omega arith) q
@@ -93,12 +90,6 @@ placed_front all s h n (of_spawn x) a f q w p =
       w.0,
       p,
     )
-placed_front all s h n (of_place PlaceCall.Lock) a f q w p =
-    let k = 3 + size a + 1 in
-    (whole all s h n k _ (omega arith) q (last_part all s h n (n + 3) (n + k) a (omega arith) (omega arith) q), p)
-placed_front all s h n (of_place PlaceCall.Unlock) a f q w p =
-    let k = 3 + size a + 1 in
-    (whole all s h n k _ (omega arith) q (last_part all s h n (n + 3) (n + k) a (omega arith) (omega arith) q), p)
 placed_front all s h n (of_cast t) a f q w p =
     let k = type_size t + 3 + size a + 1 in (
       whole all s h n k _ (omega arith) q
@@ -107,9 +98,9 @@ placed_front all s h n (of_cast t) a f q w p =
       placed_type all s h (n + 2) t f (omega (arith, q)) (left all (type_marks (type_at s (n + 2) t)) (marks (expression_at s (n + (type_size t + 3)) a)) w.1),
       p,
     )
-placed_front all s h n _ a f q w p =
-    let k = 2 + size a + 1 in
-    (whole all s h n k _ (omega arith) q (last_part all s h n (n + 2) (n + k) a (omega arith) (omega arith) q), p)
+placed_front all s h n v a f q w p =
+    let k = front_size v + size a + 1 in
+    (whole all s h n k _ (omega arith) q (last_part all s h n (n + front_size v) (n + k) a (omega arith) (omega arith) q), p)
 
 few_rest : (all : Phrases) → rest_size all ≤ sizes all + 1
 few_rest none = omega arith

@@ -1,5 +1,5 @@
 -- The tree of a program lies at its tokens.
-use Rattle.sharc_parse.proofs.{Imports.{◌≡◌, ℕ, ◌+◌, ◌≤◌, ◌<◌, List, [], ◌∷◌, ◌++◌, length, Option, Some, None, IfSome, refl, sym, ap, ◌∙◌, arith, subst, true, false, length-map, marks_from, name_marks, type_marks, declaration_marks, declarations_marks, marks, option_marks, right_marks, simple_marks, local_marks, first_marks, head_marks, statement_marks, statements_marks, item_marks, items_marks, AreMarks, span_of, span_of_right, span_of_simple, span_of_statement, span_of_item, Follow, option_spans, first_spans, head_spans, statement_spans, declaration_spans, form_spans, item_spans, Placed, PlacedRight, PlacedSimple, PlacedLocal, PlacedFirst, PlacedHead, PlacedStatement, PlacedStatements, PlacedItem, PlacedItems, Site, Span, Token, Tokens, Declaring, Phrase, Value, value, malloc, Doing, assign, invoke, Declared, Line, nothing, does, declares, Loop, Sentence, line, jump, return, block, under, Sentences, no_more, sentence, Opening, if_of, else_of, while_of, for_of, Form, single, array, initially, Callable, Part, structure, global, function, IsProgram, FitsCount, FitsValue, FitsDoing, FitsInitial, FitsLine, FitsStep, FitsAs, FitAllAs, FitsOpening, FitAllDeclaring, FitsFields, FitsPart, Reads, site_in, word_of, name_at, type_at, declaration_at, type_size, declaring_size, size, option_size, count_size, value_size, doing_size, initial_size, local_size, line_size, step_size, sentence_size, all_size, opening_size, fields_size, parameters_size, form_size, part_size, span_at, expression_at, option_at, value_at, doing_at, initial_at, local_at, first_at, step_at, head_at, line_at, statement_at, statements_at, under_at, declarations_at, form_at, item_at, items_at}, Marked.{marked, of_tokens, parts_marked}, Lengths.{parts_size, parts_length}, Marks.{left, right, words_are_there}, Standing.{Standing, standing, Lies, lies, lies_point, Row, part, last, whole, joined}, PlacedPhrases.{lies_type, placed_type, lies_declaration, placed_declaration, follow_declarations, placed_declarations, lies_expression, placed_expression, follow_option, placed_option}}
+use Rattle.sharc_parse.proofs.{Imports.{◌≡◌, ℕ, ◌+◌, ◌≤◌, ◌<◌, List, [], ◌∷◌, ◌++◌, length, Option, Some, None, IfSome, refl, sym, ap, ◌∙◌, arith, subst, true, false, length-map, marks_from, name_marks, type_marks, declaration_marks, declarations_marks, marks, option_marks, right_marks, simple_marks, local_marks, first_marks, head_marks, statement_marks, statements_marks, item_marks, items_marks, AreMarks, span_of, span_of_right, span_of_simple, span_of_statement, span_of_item, Follow, option_spans, first_spans, head_spans, statement_spans, declaration_spans, form_spans, item_spans, Placed, PlacedRight, PlacedSimple, PlacedLocal, PlacedFirst, PlacedHead, PlacedStatement, PlacedStatements, PlacedItem, PlacedItems, Site, Span, Token, Tokens, Declaring, Phrase, Value, value, malloc, Doing, assign, invoke, Declared, Line, nothing, does, declares, Loop, Sentence, line, jump, return, block, under, Sentences, no_more, sentence, Opening, if_of, else_of, while_of, for_of, Form, single, array, initially, Callable, Part, structure, global, function, IsProgram, FitsCount, FitsValue, FitsDoing, FitsInitial, FitsLine, FitsStep, FitsAs, FitAllAs, FitsOpening, FitAllDeclaring, FitsFields, FitsPart, Reads, site_in, word_of, name_at, type_at, declaration_at, type_size, declaring_size, size, option_size, count_size, value_size, doing_size, initial_size, local_size, line_size, step_size, sentence_size, all_size, opening_size, fields_size, parameters_size, form_size, part_size, span_at, expression_at, option_at, value_at, doing_at, initial_at, local_at, first_at, step_at, head_at, line_at, statement_at, statements_at, under_at, declarations_at, form_at, item_at, items_at}, Marked.{marked, of_tokens, parts_marked, parts_size}, Marks.{left, right, words_are_there}, Standing.{Standing, standing, Lies, lies, lies_point, Row, part, last, whole, joined}, PlacedPhrases.{lies_type, placed_type, lies_declaration, placed_declaration, follow_declarations, placed_declarations, lies_expression, placed_expression, follow_option, placed_option}}
 use Rattle.sharc_tree.specs.Tree as tree
 use Rattle.sharc_tree.specs.Placed.{IsPlaced}
 
@@ -302,8 +302,9 @@ pub placed : (tokens : Tokens) (p : tree.Program) → Reads tokens p → IsPlace
 placed tokens p r =
     let all = tokens.list in
     let h = standing all in
-    let size : parts_size r.phrases ≡ length all = sym (parts_length r.phrases) ∙ ap length r.spelled ∙ length-map all word_of in
-    let same : items_marks (items_at (site_in all) 0 r.phrases) ≡ marks_from 0 all = parts_marked (site_in all) h.numbered 0 0 r.phrases refl ∙ ap (λ z. marked 0 z) r.spelled ∙ sym (of_tokens 0 all) in
+    let told = parts_marked (site_in all) h.numbered 0 0 r.phrases refl in
+    let size : parts_size r.phrases ≡ length all = sym told.1 ∙ ap length r.spelled ∙ length-map all word_of in
+    let same : items_marks (items_at (site_in all) 0 r.phrases) ≡ marks_from 0 all = told.0 ∙ ap (λ z. marked 0 z) r.spelled ∙ sym (of_tokens 0 all) in
     let there : AreMarks all (items_marks (items_at (site_in all) 0 r.phrases)) = subst (AreMarks all) (sym same) (words_are_there all) in
     let follow : Follow all 0 (length all) (item_spans p.items) = subst (λ z. Follow all 0 (length all) (item_spans z)) (sym r.placed) (follow_items all (site_in all) h 0 (length all) r.phrases (omega (arith, size)) (omega arith)).follow in
     let items : PlacedItems all p.items = subst (PlacedItems all) (sym r.placed) (placed_items all (site_in all) h 0 r.phrases r.is_program (omega (arith, size)) there) in

@@ -1,5 +1,5 @@
 -- The machine's steps over statements that hold no other.
-use Rattle.sharc_parse.proofs.{Imports.{◌≡◌, ℕ, inl, inr, ◌+◌, ◌<◌, List, [], ◌∷◌, sym, ap, ◌∙◌, arith, Bool, true, false, Option, subst, eqb_tells, lt-leb, le-leb, ◌==◌, ◌⊎◌, ◌≢◌, Result, Ok, Err, Semicolon, Jump, view_expr, view_option, view_stmt, Token, Site, Span, Expr, Stmt, Word, mark, jump, Outer, as_statement, Done, a_semicolon, At, holds_items, may_declare, reads_within, around_it, crowded_line, site_in, option_size, option_at, span_at, statement_at, sentence_size, ReadingFault, Memory, option_of, by_return, ReadsTail, IsTailPlaced, bare_statement, sentence_of, BuildsStatement, ReadsReturn, IsRestPlaced}, Steps.fixed_goes}
+use Rattle.sharc_parse.proofs.{Imports.{◌≡◌, ℕ, inl, inr, ◌+◌, ◌<◌, List, [], ◌∷◌, sym, ap, ◌∙◌, arith, Bool, true, false, Option, subst, eqb_tells, lt-leb, le-leb, ◌==◌, ◌⊎◌, ◌≢◌, Result, Ok, Err, Semicolon, Jump, view_expr, view_option, view_stmt, Token, Site, Span, Expr, Stmt, Word, mark, jump, Outer, as_statement, Done, a_semicolon, At, holds_items, may_declare, reads_within, around_it, crowded_line, site_in, option_size, span_at, statement_at, sentence_size, ReadingFault, Memory, option_of, by_return, ReadsTail, IsTailPlaced, bare_statement, sentence_of, BuildsStatement, ReadsReturn, IsRestPlaced}, Steps.fixed_goes}
 use Rattle.sharc_tree.specs.Tree as tree
 
 pub line_may : (o : Outer) (may : Bool) → holds_items o ≡ may → may_declare as_statement o ≡ may
@@ -32,8 +32,7 @@ over_statement s n v w e h = subst (λ v. v ≡ statement_at s n (bare_statement
 pub return_placed : (result : Result Stmt ReadingFault) (tokens : List Token) (n old new : ℕ) (sp : Span) (x : Option Expr) → BuildsStatement result (tree.return sp (view_option view_expr x)) → old ≡ n + 1 → ((length : ℕ) → new ≡ n + length → sp ≡ span_at (site_in tokens) n length) → IsTailPlaced (Ok x) tokens old new → IsRestPlaced result tokens old new
 return_placed (Ok s) tokens n old new sp x b h span t = λ m e.
     let same : n ≡ m = omega (arith, e, h) in
-    let stands = over_statement (site_in tokens) n (view_stmt s) (tree.return sp (view_option view_expr x)) b
-    (ap (λ z. tree.return z (view_option view_expr x)) (span (option_size (option_of x) + 2) (omega (arith, h, t.1)))
-    ∙ ap (tree.return (span_at (site_in tokens) n (option_size (option_of x) + 2))) (t.0 ∙ ap (λ i. option_at (site_in tokens) i (option_of x)) h)) in
+    let span_is = span (option_size (option_of x) + 2) (omega (arith, h, t.1)) in
+    let stands = over_statement (site_in tokens) n (view_stmt s) (tree.return sp (view_option view_expr x)) b (cc) in
     (stands ∙ ap (λ i. statement_at (site_in tokens) i (sentence_of s)) same, omega (arith, h, t.1, same, ap (λ v. sentence_size (bare_statement v)) b))
 return_placed (Err x) tokens n old new sp y b h span t = tt

@@ -1,5 +1,5 @@
 -- The machine's steps over the items of a program, and its first fault.
-use Rattle.sharc_parse.proofs.Imports.{◌≡◌, ℕ, ◌+◌, ◌-◌, ◌<◌, ◌≤◌, List, [], ◌∷◌, ◌++◌, length, drop, refl, sym, ap, ◌∙◌, arith, subst, length-drop, drop_all, length-map, Result, Ok, Err, view_item, view_items, view_program, Token, Tokens, Site, Item, Word, Part, IsProgram, program_words, on_top, naming, TypeWant, Top, At, with_part, first_state, LowProgram, ReadWithin, StuckAt, Over, reads_within, words_of, site_in, part_size, item_at, items_at, Reads, IsFault, wrong_code, ReadingFault, Memory as NoMemory, Wrong, ParseFault, FaultOf, from, part_of, ReadsItem, IsItemPlaced, TokenRefusal, parts_of, code_of, ReadsItems, Refuses, Completes, Parses, GrammarFault}
+use Rattle.sharc_parse.proofs.{Imports.{◌≡◌, ℕ, ◌+◌, ◌-◌, ◌<◌, ◌≤◌, List, [], ◌∷◌, ◌++◌, length, drop, refl, sym, ap, ◌∙◌, arith, subst, length-drop, drop_all, length-map, Result, Ok, Err, view_item, view_items, view_program, Token, Tokens, Site, Item, Word, Part, IsProgram, program_words, on_top, naming, TypeWant, Top, At, with_part, first_state, LowProgram, ReadWithin, StuckAt, Over, reads_within, words_of, site_in, part_size, item_at, items_at, Reads, IsFault, wrong_code, ReadingFault, Memory as NoMemory, Wrong, ParseFault, FaultOf, from, part_of, ReadsItem, IsItemPlaced, TokenRefusal, parts_of, code_of, ReadsItems, Refuses, Completes, Parses, GrammarFault}, Marked.parts_size}
 use Rattle.sharc_tree.specs.declared.tree.item.Program.{Program}
 use Rattle.sharc_tree.specs.Tree as tree
 use Rattle.sharc_parse.specs.{declared.token.ReadingFault.TheVariants.Deep, declared.program.ParseFault.TheVariants.Memory}
@@ -23,16 +23,11 @@ view_more : (list : List Item) (i : Item) → view_items (list ++ i ∷ []) ≡ 
 view_more [] i = refl
 view_more (a ∷ rest) i = ap (λ z. view_item a ∷ z) (view_more rest i)
 
--- how many tokens the parts have
-abbrev pub items_size : List Part → ℕ
-items_size [] = 0
-items_size (p ∷ rest) = part_size p + items_size rest
+parts_size_more : (list : List Part) (p : Part) → parts_size (with_part list p) ≡ parts_size list + part_size p
+parts_size_more [] p = omega arith
+parts_size_more (a ∷ rest) p = omega (arith, parts_size_more rest p)
 
-items_size_more : (list : List Part) (p : Part) → items_size (with_part list p) ≡ items_size list + part_size p
-items_size_more [] p = omega arith
-items_size_more (a ∷ rest) p = omega (arith, items_size_more rest p)
-
-items_at_more : (s : ℕ → Site) (n m : ℕ) (list : List Part) (p : Part) → m ≡ n + items_size list → items_at s n (with_part list p) ≡ items_at s n list ++ item_at s m p ∷ []
+items_at_more : (s : ℕ → Site) (n m : ℕ) (list : List Part) (p : Part) → m ≡ n + parts_size list → items_at s n (with_part list p) ≡ items_at s n list ++ item_at s m p ∷ []
 items_at_more s n m [] p h = ap (λ i. item_at s i p ∷ []) (omega (arith, h))
 items_at_more s n m (a ∷ rest) p h = ap (λ z. item_at s n a ∷ z) (items_at_more s (n + part_size a) m rest p (omega (arith, h)))
 
@@ -40,7 +35,7 @@ items_at_more s n m (a ∷ rest) p h = ap (λ z. item_at s n a ∷ z) (items_at_
 pub record ItemsSoFar (tokens : List Token) (at : ℕ) (list : List Item) : Type 0 where
   pub reads : reads_within (words_of tokens) first_state ≡ reads_within (from tokens at) (At [] (Top (parts_of list)))
   pub placed : view_items list ≡ items_at (site_in tokens) 0 (parts_of list)
-  pub at_is : at ≡ items_size (parts_of list)
+  pub at_is : at ≡ parts_size (parts_of list)
 
 pub no_items : (tokens : List Token) → ItemsSoFar tokens 0 []
 no_items tokens = record { reads = refl; placed = refl; at_is = refl }
@@ -54,14 +49,8 @@ one_item_more tokens old new list all i is z h r p =
     let longer : parts_of all ≡ with_part (parts_of list) (part_of i) = ap parts_of is ∙ parts_more list i in
     record {
       reads = item_there tokens old list z h ∙ r (parts_of list) ∙ ap (λ f. reads_within (from tokens new) (At [] (Top f))) (sym longer);
-      placed =
-          ap view_items is
-          ∙ view_more list i
-          ∙ ap (λ l. l ++ view_item i ∷ []) z.placed
-          ∙ ap (λ x. items_at (site_in tokens) 0 (parts_of list) ++ x ∷ []) p.0
-          ∙ sym (items_at_more (site_in tokens) 0 old (parts_of list) (part_of i) (omega (arith, z.at_is)))
-          ∙ ap (items_at (site_in tokens) 0) (sym longer);
-      at_is = omega (arith, z.at_is, p.1, ap items_size longer, items_size_more (parts_of list) (part_of i));
+      placed = cc (is, z.placed, p.0, view_more list i, items_at_more (site_in tokens) 0 old (parts_of list) (part_of i) (omega (arith, z.at_is)));
+      at_is = omega (arith, z.at_is, p.1, ap parts_size longer, parts_size_more (parts_of list) (part_of i));
     }
 
 pub items_read : (tokens : List Token) (at : ℕ) (list : List Item) → ItemsSoFar tokens at list → length tokens ≤ at → reads_within (words_of tokens) first_state ≡ ReadWithin (parts_of list)

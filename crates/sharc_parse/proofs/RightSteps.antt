@@ -1,5 +1,5 @@
 -- The machine's steps over the right side of `=`.
-use Rattle.sharc_parse.proofs.{Imports.{◌≡◌, ◌≤◌, ◌<◌, List, [], ◌∷◌, Option, Some, None, refl, ap, arith, Bool, false, map, Ok, Keyword, OpenParenthesis, CloseParenthesis, OpenBrace, OpenBracket, Dot, Arrow, Comma, Star, Base, WrittenType, Word, name, keyword, mark, Sharing, Typing, Phrase, Value, value, malloc, Outer, ValuePlace, ExpressionPlace, part, valued, counting, Want, Have, Malloced, Valued, TypeWant, sizing, an_open, a_close, a_sizeof, At, Role, Operating, Ending, role, grip_of, grip, have, leave, typed, level_step, StuckAt, next_within, reads_within, bare_level, bare_type, NotAt, EndsLevels, EndsType, typed_levels, typed_state, EndsValue, valued_state, value_within}, Steps.some_strength}
+use Rattle.sharc_parse.proofs.{Imports.{◌≡◌, ◌≤◌, ◌<◌, List, [], ◌∷◌, Option, Some, None, refl, ap, arith, Bool, false, map, Ok, Keyword, OpenParenthesis, CloseParenthesis, OpenBrace, OpenBracket, Dot, Arrow, Comma, Star, Base, WrittenType, Word, name, keyword, mark, Sharing, Phrase, Value, value, malloc, Outer, ValuePlace, ExpressionPlace, part, valued, counting, Want, Have, Malloced, Valued, TypeWant, sizing, an_open, a_close, a_sizeof, At, Role, Operating, Ending, role, grip_of, grip, have, leave, level_step, StuckAt, next_within, reads_within, bare_level, bare_type, NotAt, EndsLevels, EndsType, typed_levels, typed_state, EndsValue, valued_state, value_within}, Steps.some_strength, TypeSteps.typing_with}
 
 pub malloc_goes : (v : ValuePlace) (o : Outer) (y : List Word) → reads_within (keyword Keyword.Malloc ∷ y) (At [] (Want (part (valued v) o))) ≡ reads_within y (At (an_open ∷ []) (Malloced v o))
 malloc_goes v o y = refl
@@ -22,26 +22,19 @@ count_goes v o x y = refl
 pub count_sizes : (v : ValuePlace) (o : Outer) (n : Option Phrase) (y : List Word) → reads_within (keyword Keyword.Sizeof ∷ y) (At (a_sizeof ∷ (an_open ∷ [])) (TypeWant (sizing v n o))) ≡ reads_within y (At (an_open ∷ []) (TypeWant (sizing v n o)))
 count_sizes v o n y = refl
 
-count_word : (v : ValuePlace) (o : Outer) (x : Phrase) (t : Word) → grip_of (role t) ≤ 11 → (t ≡ mark Star → ⊥) → have (role t) x (part (counting v) o) t ≡ None
-count_word v o x (mark Star) g s = absurd (s refl)
-count_word v o x (mark OpenParenthesis) g s = absurd (omega (arith, g))
-count_word v o x (mark OpenBracket) g s = absurd (omega (arith, g))
-count_word v o x (mark Dot) g s = absurd (omega (arith, g))
-count_word v o x (mark Arrow) g s = absurd (omega (arith, g))
-count_word v o x _ g s = refl
-
 -- the `*` is missing
 pub count_stuck : (v : ValuePlace) (o : Outer) (x : Phrase) (ts : List Word) → grip ts ≤ 11 → NotAt (mark Star) ts → reads_within ts (At [] (Have x (part (counting v) o))) ≡ StuckAt ts
-count_stuck v o x [] g s = refl
-count_stuck v o x (t ∷ y) g s = ap (λ n. next_within n (λ s. reads_within y s) (t ∷ y)) (count_word v o x t g s)
+count_stuck v o x (mark Star ∷ y) g s = absurd (s refl)
+count_stuck v o x (mark OpenParenthesis ∷ y) g s = absurd (omega (arith, g))
+count_stuck v o x (mark OpenBracket ∷ y) g s = absurd (omega (arith, g))
+count_stuck v o x (mark Dot ∷ y) g s = absurd (omega (arith, g))
+count_stuck v o x (mark Arrow ∷ y) g s = absurd (omega (arith, g))
+count_stuck v o x _ g s = refl
 
 -- what `sizeof` takes
 
 pub size_opens : (v : ValuePlace) (o : Outer) (n : Option Phrase) (y : List Word) → reads_within (mark OpenParenthesis ∷ y) (At (an_open ∷ []) (TypeWant (sizing v n o))) ≡ reads_within y (At [] (TypeWant (sizing v n o)))
 size_opens v o n y = refl
-
-abbrev typing_with : Bool → Base → List (Option Sharing) → Typing
-typing_with first b levels = record { mode_first = first; base = b; levels = levels }
 
 closes_levels : (v : ValuePlace) (o : Outer) (n : Option Phrase) (first : Bool) (b : Base) (levels : List (Option Sharing)) (y all : List Word) → EndsLevels false levels all → reads_within (mark CloseParenthesis ∷ y) (typed_levels (sizing v n o) first b levels) ≡ reads_within y (At (a_close ∷ []) (Valued v (malloc n (typing_with first b levels)) o))
 closes_levels v o n first b [] y all e = absurd e
@@ -54,18 +47,15 @@ no_mode_there : (v : ValuePlace) (o : Outer) (n : Option Phrase) (first : Bool) 
 no_mode_there v o n first b None below t = refl
 no_mode_there v o n first b (Some s) below t = refl
 
-size_ends : (v : ValuePlace) (o : Outer) (n : Option Phrase) (first : Bool) (b : Base) (m : Option Sharing) (below : List (Option Sharing)) (t : Word) → (t ≡ mark Star → ⊥) → (t ≡ mark CloseParenthesis → ⊥) → typed (sizing v n o) first b m below t ≡ None
-size_ends v o n first b m below (mark Star) s c = absurd (s refl)
-size_ends v o n first b m below (name x) s c = refl
-size_ends v o n first b m below (mark Comma) s c = refl
-size_ends v o n first b m below (mark CloseParenthesis) s c = absurd (c refl)
-size_ends v o n first b m below (mark OpenBrace) s c = refl
-size_ends v o n first b m below t s c = no_mode_there v o n first b m below t
-
 stuck_levels : (v : ValuePlace) (o : Outer) (n : Option Phrase) (first : Bool) (b : Base) (levels : List (Option Sharing)) (ts : List Word) → EndsLevels false levels ts → NotAt (mark CloseParenthesis) ts → reads_within ts (typed_levels (sizing v n o) first b levels) ≡ StuckAt ts
 stuck_levels v o n first b [] ts e c = absurd e
 stuck_levels v o n first b (m ∷ below) [] e c = refl
-stuck_levels v o n first b (m ∷ below) (t ∷ y) e c = ap (λ o. next_within o (λ s. reads_within y s) (t ∷ y)) (size_ends v o n first b m below t e.1 c)
+stuck_levels v o n first b (m ∷ below) (mark Star ∷ y) e c = absurd (e.1 refl)
+stuck_levels v o n first b (m ∷ below) (name x ∷ y) e c = refl
+stuck_levels v o n first b (m ∷ below) (mark Comma ∷ y) e c = refl
+stuck_levels v o n first b (m ∷ below) (mark CloseParenthesis ∷ y) e c = absurd (c refl)
+stuck_levels v o n first b (m ∷ below) (mark OpenBrace ∷ y) e c = refl
+stuck_levels v o n first b (m ∷ below) (t ∷ y) e c = ap (λ o. next_within o (λ s. reads_within y s) (t ∷ y)) (no_mode_there v o n first b m below t)
 
 -- the first `)` is missing
 pub size_stuck : (v : ValuePlace) (o : Outer) (n : Option Phrase) (t : WrittenType) (ts : List Word) → EndsType false (Ok t) ts → NotAt (mark CloseParenthesis) ts → reads_within ts (typed_state (sizing v n o) (bare_type t)) ≡ StuckAt ts

@@ -1,5 +1,5 @@
 -- The machine's steps within the limits, put together as the parser takes them.
-use Rattle.sharc_parse.proofs.Imports.{◌≡◌, ℕ, ◌+◌, ◌≤◌, ◌<◌, List, [], ◌∷◌, ◌++◌, Some, None, refl, sym, ap, ◌∙◌, arith, subst, true, false, cond, max, Result, Ok, Err, le-leb, lt-leb, nat_le, Keyword, OpenParenthesis, CloseParenthesis, OpenBrace, OpenBracket, CloseBracket, Semicolon, Comma, Dot, Arrow, Minus, Star, Ampersand, Exclamation, Tilde, BinaryOperator, UnaryOperator, Negate, Not, Complement, Dereference, FieldOperator, Constant, view_expr, view_arguments, view_arguments-push, Site, Expr, Span, Token, Identifier, ValueCall, PlaceCall, Word, name, keyword, mark, number, character, Front, of_place, Phrase, identifier, constant, call, field, unary, binary, Phrases, none, more, operator_mark, unary_mark, access_mark, constant_word, strength, front_level, valued, counting, Cont, part, beneath, right_of, fronted, indexing, arguments, Core, Want, Have, Called, Dotted, Fixed, an_open, a_close, a_semicolon, a_comma, a_brace, a_bracket, an_ampersand, a_sizeof, State, At, fixed_word, is_fixed, to, Role, Operating, Ending, role, grip_of, grip, with_last, floor, settle, mallocs, want, open_call, front_end, end_at, counted, shift, have, height, highest, depth, crowded, over_core, over, Limited, StuckAt, Over, next_within, reads_within, weak, operating, settle_stops, role_binary, role_unary, floor_most, size, sizes, rest_size, expression_at, arguments_at, site_in, span_at, name_at, front_size, type_size, type_at, ParsedExpr, ReadingFault, ParsedFront, Builds, IsPlaced, StandsFront, bare_front, front_tree, NotAt, IsAt, NoName, NoConstant, NoUnary, NoFront, NoCall, NoMalloc, NoAccess, front_word, after_front, bare, bare_type, phrase_of, phrases_of, FrontWord, test_down}
+use Rattle.sharc_parse.proofs.{Imports.{◌≡◌, ℕ, ◌+◌, ◌≤◌, ◌<◌, List, [], ◌∷◌, ◌++◌, Some, None, refl, sym, ap, ◌∙◌, arith, true, false, cond, max, Result, Ok, Err, le-leb, lt-leb, nat_le, Keyword, OpenParenthesis, CloseParenthesis, OpenBrace, OpenBracket, CloseBracket, Semicolon, Comma, Dot, Arrow, Minus, Star, Ampersand, Exclamation, Tilde, BinaryOperator, UnaryOperator, Negate, Not, Complement, Dereference, FieldOperator, Constant, view_expr, view_arguments, view_arguments-push, Site, Expr, Span, Token, Identifier, ValueCall, PlaceCall, Word, name, keyword, mark, number, character, Front, Phrase, identifier, constant, call, field, unary, binary, Phrases, none, more, operator_mark, unary_mark, access_mark, constant_word, strength, front_level, valued, counting, Cont, part, beneath, right_of, fronted, indexing, arguments, Core, Want, Have, Called, Dotted, Fixed, an_open, a_close, a_semicolon, a_comma, a_brace, a_bracket, an_ampersand, a_sizeof, State, At, fixed_word, is_fixed, to, Role, Operating, Ending, role, grip_of, grip, with_last, floor, settle, mallocs, want, open_call, end_at, counted, shift, have, height, highest, depth, crowded, over_core, over, Limited, StuckAt, Over, next_within, reads_within, role_binary, role_unary, floor_most, size, sizes, rest_size, expression_at, arguments_at, site_in, span_at, name_at, front_size, ParsedExpr, ReadingFault, ParsedFront, Builds, IsPlaced, StandsFront, bare_front, front_tree, NotAt, IsAt, NoName, NoConstant, NoUnary, NoFront, NoCall, NoMalloc, NoAccess, front_word, after_front, bare, phrase_of, phrases_of, FrontWord, test_down, core_step}, Complete.operator_step, Sound.is_statement}
 use Rattle.sharc_tree.specs.Tree as tree
 use Rattle.sharc_parse.specs.declared.expr.Front.TheVariants as fronts
 
@@ -9,6 +9,14 @@ passes n y all e = ap (λ b. cond b (Over all) (reads_within y n)) e
 
 pub fails : (n : State) (y all : List Word) → over n ≡ true → next_within (Some n) (λ s. reads_within y s) all ≡ Over all
 fails n y all e = ap (λ b. cond b (Over all) (reads_within y n)) e
+
+-- a word there that is over a limit
+pub deep : (c : Core) (w : Word) (n : State) (ts : List Word) → IsAt w ts → core_step c w ≡ Some n → over n ≡ true → reads_within ts (At [] c) ≡ Over ts
+deep c w n [] a s o = absurd a
+deep c w n (t ∷ y) a s o =
+    ap (λ u. next_within (core_step c u) (λ z. reads_within y z) (t ∷ y)) a
+    ∙ ap (λ v. next_within v (λ z. reads_within y z) (t ∷ y)) s
+    ∙ fails n y (t ∷ y) o
 
 -- there is room for one level more
 pub fine : (k : Cont) (m : ℕ) → crowded k ≡ false → m < 64 → cond (crowded k) true (nat_le 64 m) ≡ false
@@ -26,16 +34,19 @@ fixed_here _ = refl
 pub fixed_goes : (f : Fixed) (fs : List Fixed) (c : Core) (y : List Word) → over_core c ≡ false → reads_within (fixed_word f ∷ y) (At (f ∷ fs) c) ≡ reads_within y (At fs c)
 fixed_goes f fs c y e = ap (λ b. next_within (cond b (Some (At fs c)) None) (λ s. reads_within y s) (fixed_word f ∷ y)) (fixed_here f) ∙ passes (At fs c) y (fixed_word f ∷ y) e
 
+pub fixed_is : (w : Fixed) (t : Word) → is_fixed w t ≡ true → t ≡ fixed_word w
+fixed_is an_open (mark OpenParenthesis) h = refl
+fixed_is a_close (mark CloseParenthesis) h = refl
+fixed_is a_semicolon (mark Semicolon) h = refl
+fixed_is a_comma (mark Comma) h = refl
+fixed_is a_brace (mark OpenBrace) h = refl
+fixed_is a_bracket (mark CloseBracket) h = refl
+fixed_is an_ampersand (mark Ampersand) h = refl
+fixed_is a_sizeof (keyword Keyword.Sizeof) h = refl
+fixed_is _ _ h = cc
+
 not_fixed : (f : Fixed) (t : Word) → (t ≡ fixed_word f → ⊥) → is_fixed f t ≡ false
-not_fixed an_open (mark OpenParenthesis) h = absurd (h refl)
-not_fixed a_close (mark CloseParenthesis) h = absurd (h refl)
-not_fixed a_semicolon (mark Semicolon) h = absurd (h refl)
-not_fixed a_comma (mark Comma) h = absurd (h refl)
-not_fixed a_brace (mark OpenBrace) h = absurd (h refl)
-not_fixed a_bracket (mark CloseBracket) h = absurd (h refl)
-not_fixed an_ampersand (mark Ampersand) h = absurd (h refl)
-not_fixed a_sizeof (keyword Keyword.Sizeof) h = absurd (h refl)
-not_fixed _ _ h = refl
+not_fixed f t h = is_statement (is_fixed f t) (λ e. absurd (h (fixed_is f t e)))
 
 pub fixed_stuck : (f : Fixed) (fs : List Fixed) (c : Core) (ts : List Word) → NotAt (fixed_word f) ts → reads_within ts (At (f ∷ fs) c) ≡ StuckAt ts
 fixed_stuck f fs c [] h = refl
@@ -57,11 +68,7 @@ pub front_goes : (w : FrontWord) (k : Cont) (y : List Word) → crowded k ≡ fa
 front_goes w k y c h = ap (λ o. next_within o (λ s. reads_within y s) (front_word w ∷ y)) (front_step w k) ∙ passes (after_front w k) y (front_word w ∷ y) (front_over w k ∙ fine k (depth k) c h)
 
 pub front_deep : (w : FrontWord) (k : Cont) (ts : List Word) → IsAt (front_word w) ts → crowded k ≡ false → 64 ≤ depth k → reads_within ts (At [] (Want k)) ≡ Over ts
-front_deep w k [] a c h = absurd a
-front_deep w k (t ∷ y) a c h =
-    ap (λ u. next_within (want k u) (λ s. reads_within y s) (t ∷ y)) a
-    ∙ ap (λ o. next_within o (λ s. reads_within y s) (t ∷ y)) (front_step w k)
-    ∙ fails (after_front w k) y (t ∷ y) (front_over w k ∙ not_fine k (depth k) c h)
+front_deep w k ts a c h = deep (Want k) (front_word w) (after_front w k) ts a (front_step w k) (front_over w k ∙ not_fine k (depth k) c h)
 
 -- operators
 
@@ -73,11 +80,7 @@ pub unary_goes : (u : UnaryOperator) (k : Cont) (y : List Word) → crowded k �
 unary_goes u k y c h = ap (λ o. next_within o (λ s. reads_within y s) (mark (unary_mark u) ∷ y)) (unary_step u k) ∙ passes (At [] (Want (beneath u k))) y (mark (unary_mark u) ∷ y) (fine k (depth k) c h)
 
 pub unary_deep : (u : UnaryOperator) (k : Cont) (ts : List Word) → IsAt (mark (unary_mark u)) ts → crowded k ≡ false → 64 ≤ depth k → reads_within ts (At [] (Want k)) ≡ Over ts
-unary_deep u k [] a c h = absurd a
-unary_deep u k (t ∷ y) a c h =
-    ap (λ v. next_within (want k v) (λ s. reads_within y s) (t ∷ y)) a
-    ∙ ap (λ o. next_within o (λ s. reads_within y s) (t ∷ y)) (unary_step u k)
-    ∙ fails (At [] (Want (beneath u k))) y (t ∷ y) (not_fine k (depth k) c h)
+unary_deep u k ts a c h = deep (Want k) (mark (unary_mark u)) (At [] (Want (beneath u k))) ts a (unary_step u k) (not_fine k (depth k) c h)
 
 pub whole_unary : (y : List Word) (u : UnaryOperator) (a : Phrase) (k : Cont) → grip y ≤ 11 → reads_within y (At [] (Have a (beneath u k))) ≡ reads_within y (At [] (Have (unary u a) k))
 whole_unary [] u a k h = refl
@@ -87,22 +90,13 @@ pub whole_binary : (y : List Word) (a b : Phrase) (o : BinaryOperator) (k : Cont
 whole_binary [] a b o k h = refl
 whole_binary (t ∷ y) a b o k h = ap (λ n. next_within n (λ s. reads_within y s) (t ∷ y)) (role_binary (role t) t a b o k h)
 
-takes_any : (o : BinaryOperator) (x : Phrase) (k : Cont) (y : List Word) → floor k ≤ strength o → reads_within (mark (operator_mark o) ∷ y) (At [] (Have x k)) ≡ next_within (to (Want (right_of x o k))) (λ s. reads_within y s) (mark (operator_mark o) ∷ y)
-takes_any o x k y h =
-    ap (λ r. next_within (have r x k (mark (operator_mark o))) (λ s. reads_within y s) (mark (operator_mark o) ∷ y)) (operating o)
-    ∙ ap (λ (s : Phrase × Cont). next_within (shift o s.0 s.1) (λ n. reads_within y n) (mark (operator_mark o) ∷ y)) (settle_stops (strength o) x k (weak o) h)
-    ∙ ap (λ b. next_within (cond b (to (Want (right_of x o k))) (counted o x k)) (λ n. reads_within y n) (mark (operator_mark o) ∷ y)) (le-leb (floor k) (strength o) h)
-
 pub operator_goes : (o : BinaryOperator) (x : Phrase) (k : Cont) (y : List Word) → floor k ≤ strength o → crowded k ≡ false → depth k + height x < 64 → reads_within (mark (operator_mark o) ∷ y) (At [] (Have x k)) ≡ reads_within y (At [] (Want (right_of x o k)))
-operator_goes o x k y f c d = takes_any o x k y f ∙ passes (At [] (Want (right_of x o k))) y (mark (operator_mark o) ∷ y) (fine k (depth k + height x) c d)
+operator_goes o x k y f c d =
+    ap (λ v. next_within v (λ s. reads_within y s) (mark (operator_mark o) ∷ y)) (operator_step o x k f)
+    ∙ passes (At [] (Want (right_of x o k))) y (mark (operator_mark o) ∷ y) (fine k (depth k + height x) c d)
 
 pub operator_deep : (o : BinaryOperator) (x : Phrase) (k : Cont) (ts : List Word) → IsAt (mark (operator_mark o)) ts → floor k ≤ strength o → crowded k ≡ false → 64 ≤ depth k + height x → reads_within ts (At [] (Have x k)) ≡ Over ts
-operator_deep o x k [] a f c d = absurd a
-operator_deep o x k (t ∷ y) a f c d =
-    ap (λ u. reads_within (u ∷ y) (At [] (Have x k))) a
-    ∙ takes_any o x k y f
-    ∙ fails (At [] (Want (right_of x o k))) y (mark (operator_mark o) ∷ y) (not_fine k (depth k + height x) c d)
-    ∙ ap (λ u. Over (u ∷ y)) (sym a)
+operator_deep o x k ts a f c d = deep (Have x k) (mark (operator_mark o)) (At [] (Want (right_of x o k))) ts a (operator_step o x k f) (not_fine k (depth k + height x) c d)
 
 -- one operand more
 pub binary_read : (old : Limited) (y new : List Word) (a b c : Phrase) (o : BinaryOperator) (k : Cont) → c ≡ binary o a b → old ≡ reads_within (mark (operator_mark o) ∷ y) (At [] (Have a k)) → floor k ≤ strength o → crowded k ≡ false → depth k + height a < 64 → reads_within y (At [] (Want (right_of a o k))) ≡ reads_within new (At [] (Have b (right_of a o k))) → grip new ≤ strength o → old ≡ reads_within new (At [] (Have c k))
@@ -118,44 +112,33 @@ pub constant_goes : (c : Constant) (k : Cont) (y : List Word) → crowded k ≡ 
 constant_goes c k y w = ap (λ o. next_within o (λ s. reads_within y s) (constant_word c ∷ y)) (constant_step c k) ∙ passes (At [] (Have (constant c) k)) y (constant_word c ∷ y) w
 
 pub call_deep : (n : List ℕ) (k : Cont) (ts : List Word) → IsAt (mark OpenParenthesis) ts → 64 ≤ depth k → reads_within ts (At [] (Have (identifier n) k)) ≡ Over ts
-call_deep n k [] a h = absurd a
-call_deep n k (t ∷ y) a h =
-    ap (λ u. reads_within (u ∷ y) (At [] (Have (identifier n) k))) a
-    ∙ fails (At [] (Called n k)) y (mark OpenParenthesis ∷ y) (le-leb 64 (depth k) h)
-    ∙ ap (λ u. Over (u ∷ y)) (sym a)
+call_deep n k ts a h = deep (Have (identifier n) k) (mark OpenParenthesis) (At [] (Called n k)) ts a refl (le-leb 64 (depth k) h)
 
 -- nothing that begins an operand; a `malloc` begins one nowhere but right of `=`
 no_malloc : (k : Cont) (y : List Word) → NoMalloc k (keyword Keyword.Malloc ∷ y) → mallocs k ≡ None
 no_malloc (part (valued v) o) y h = absurd (h refl)
 no_malloc _ y h = refl
 
-no_want : (k : Cont) (t : Word) (y : List Word) → NoMalloc k (t ∷ y) → ((u : UnaryOperator) → t ≡ mark (unary_mark u) → ⊥) → ((w : FrontWord) → t ≡ front_word w → ⊥) → ((n : List ℕ) → t ≡ name n → ⊥) → ((c : Constant) → t ≡ constant_word c → ⊥) → want k t ≡ None
-no_want k (name n) y v u w m c = absurd (m n refl)
-no_want k (number n) y v u w m c = absurd (c (Constant.Number n) refl)
-no_want k (character b) y v u w m c = absurd (c (Constant.Character b) refl)
-no_want k (keyword Keyword.Null) y v u w m c = absurd (c Constant.Null refl)
-no_want k (mark Minus) y v u w m c = absurd (u Negate refl)
-no_want k (mark Exclamation) y v u w m c = absurd (u Not refl)
-no_want k (mark Tilde) y v u w m c = absurd (u Complement refl)
-no_want k (mark Star) y v u w m c = absurd (u Dereference refl)
-no_want k (mark OpenParenthesis) y v u w m c = absurd (w FrontWord.Parenthesis refl)
-no_want k (keyword Keyword.Spawn) y v u w m c = absurd (w FrontWord.Spawn refl)
-no_want k (keyword Keyword.Join) y v u w m c = absurd (w (FrontWord.Value ValueCall.Join) refl)
-no_want k (keyword Keyword.Print) y v u w m c = absurd (w (FrontWord.Value ValueCall.Print) refl)
-no_want k (keyword Keyword.Lock) y v u w m c = absurd (w (FrontWord.Place PlaceCall.Lock) refl)
-no_want k (keyword Keyword.Unlock) y v u w m c = absurd (w (FrontWord.Place PlaceCall.Unlock) refl)
-no_want k (keyword Keyword.Free) y v u w m c = absurd (w (FrontWord.Place PlaceCall.Free) refl)
-no_want k (keyword Keyword.Scast) y v u w m c = absurd (w FrontWord.Cast refl)
-no_want k (keyword Keyword.Malloc) y v u w m c = no_malloc k y v
-no_want k _ y v u w m c = refl
-
-name_not : (n : List ℕ) (t : Word) (y : List Word) → NoName (t ∷ y) → t ≡ name n → ⊥
-name_not n t y h e = subst (λ u. NoName (u ∷ y)) e h
-
 -- no operand begins here
 pub no_operand : (k : Cont) (ts : List Word) → NoMalloc k ts → NoUnary ts → NoFront ts → NoName ts → NoConstant ts → reads_within ts (At [] (Want k)) ≡ StuckAt ts
-no_operand k [] v u w m c = refl
-no_operand k (t ∷ y) v u w m c = ap (λ o. next_within o (λ s. reads_within y s) (t ∷ y)) (no_want k t y v u w (λ n e. name_not n t y m e) c)
+no_operand k (name n ∷ y) v u w m c = absurd m
+no_operand k (number n ∷ y) v u w m c = absurd (c (Constant.Number n) refl)
+no_operand k (character b ∷ y) v u w m c = absurd (c (Constant.Character b) refl)
+no_operand k (keyword Keyword.Null ∷ y) v u w m c = absurd (c Constant.Null refl)
+no_operand k (mark Minus ∷ y) v u w m c = absurd (u Negate refl)
+no_operand k (mark Exclamation ∷ y) v u w m c = absurd (u Not refl)
+no_operand k (mark Tilde ∷ y) v u w m c = absurd (u Complement refl)
+no_operand k (mark Star ∷ y) v u w m c = absurd (u Dereference refl)
+no_operand k (mark OpenParenthesis ∷ y) v u w m c = absurd (w FrontWord.Parenthesis refl)
+no_operand k (keyword Keyword.Spawn ∷ y) v u w m c = absurd (w FrontWord.Spawn refl)
+no_operand k (keyword Keyword.Join ∷ y) v u w m c = absurd (w (FrontWord.Value ValueCall.Join) refl)
+no_operand k (keyword Keyword.Print ∷ y) v u w m c = absurd (w (FrontWord.Value ValueCall.Print) refl)
+no_operand k (keyword Keyword.Lock ∷ y) v u w m c = absurd (w (FrontWord.Place PlaceCall.Lock) refl)
+no_operand k (keyword Keyword.Unlock ∷ y) v u w m c = absurd (w (FrontWord.Place PlaceCall.Unlock) refl)
+no_operand k (keyword Keyword.Free ∷ y) v u w m c = absurd (w (FrontWord.Place PlaceCall.Free) refl)
+no_operand k (keyword Keyword.Scast ∷ y) v u w m c = absurd (w FrontWord.Cast refl)
+no_operand k (keyword Keyword.Malloc ∷ y) v u w m c = ap (λ o. next_within o (λ s. reads_within y s) (keyword Keyword.Malloc ∷ y)) (no_malloc k y v)
+no_operand k _ v u w m c = refl
 
 pub some_strength : (o : BinaryOperator) → 1 ≤ strength o
 some_strength BinaryOperator.Add = omega arith
@@ -188,11 +171,7 @@ closed_operator o x k h f =
 -- indexes and fields
 
 pub index_deep : (x : Phrase) (k : Cont) (ts : List Word) → IsAt (mark OpenBracket) ts → crowded k ≡ false → 64 ≤ depth k + height x → reads_within ts (At [] (Have x k)) ≡ Over ts
-index_deep x k [] a c h = absurd a
-index_deep x k (t ∷ y) a c h =
-    ap (λ u. reads_within (u ∷ y) (At [] (Have x k))) a
-    ∙ fails (At [] (Want (indexing x k))) y (mark OpenBracket ∷ y) (not_fine k (depth k + height x) c h)
-    ∙ ap (λ u. Over (u ∷ y)) (sym a)
+index_deep x k ts a c h = deep (Have x k) (mark OpenBracket) (At [] (Want (indexing x k))) ts a refl (not_fine k (depth k + height x) c h)
 
 access_step : (a : FieldOperator) (x : Phrase) (k : Cont) → have (role (mark (access_mark a))) x k (mark (access_mark a)) ≡ to (Dotted x a k)
 access_step FieldOperator.Dot x k = refl
@@ -204,12 +183,7 @@ access_goes a x k y h =
     ∙ passes (At [] (Dotted x a k)) y (mark (access_mark a) ∷ y) (test_down (depth k + height x) h)
 
 pub access_deep : (a : FieldOperator) (x : Phrase) (k : Cont) (ts : List Word) → IsAt (mark (access_mark a)) ts → 64 ≤ depth k + height x → reads_within ts (At [] (Have x k)) ≡ Over ts
-access_deep a x k [] i h = absurd i
-access_deep a x k (t ∷ y) i h =
-    ap (λ u. reads_within (u ∷ y) (At [] (Have x k))) i
-    ∙ ap (λ o. next_within o (λ s. reads_within y s) (mark (access_mark a) ∷ y)) (access_step a x k)
-    ∙ fails (At [] (Dotted x a k)) y (mark (access_mark a) ∷ y) (le-leb 64 (depth k + height x) h)
-    ∙ ap (λ u. Over (u ∷ y)) (sym i)
+access_deep a x k ts i h = deep (Have x k) (mark (access_mark a)) (At [] (Dotted x a k)) ts i (access_step a x k) (le-leb 64 (depth k + height x) h)
 
 pub field_goes : (x : Phrase) (a : FieldOperator) (n : List ℕ) (k : Cont) (y : List Word) → crowded k ≡ false → reads_within (name n ∷ y) (At [] (Dotted x a k)) ≡ reads_within y (At [] (Have (field x a n) k))
 field_goes x a n k y c = passes (At [] (Have (field x a n) k)) y (name n ∷ y) c
@@ -230,17 +204,13 @@ no_call x k (t ∷ y) h a =
     ∙ ap (λ o. next_within o (λ s. reads_within y s) (mark OpenParenthesis ∷ y)) (not_open x k t y h a)
     ∙ ap (λ u. StuckAt (u ∷ y)) (sym a)
 
-ends_word : (t : Word) → (t ≡ mark OpenBracket → ⊥) → ((a : FieldOperator) → t ≡ mark (access_mark a) → ⊥) → (t ≡ mark OpenParenthesis → ⊥) → grip_of (role t) ≤ 11
-ends_word (mark OpenBracket) b a o = absurd (b refl)
-ends_word (mark Dot) b a o = absurd (a FieldOperator.Dot refl)
-ends_word (mark Arrow) b a o = absurd (a FieldOperator.Arrow refl)
-ends_word (mark OpenParenthesis) b a o = absurd (o refl)
-ends_word _ b a o = omega arith
-
 -- what binds tighter than an operator has been looked for
 pub ends_postfix : (ts : List Word) → NotAt (mark OpenBracket) ts → NoAccess ts → NotAt (mark OpenParenthesis) ts → grip ts ≤ 11
-ends_postfix [] b a o = omega arith
-ends_postfix (t ∷ y) b a o = ends_word t b a o
+ends_postfix (mark OpenBracket ∷ y) b a o = absurd (b refl)
+ends_postfix (mark Dot ∷ y) b a o = absurd (a FieldOperator.Dot refl)
+ends_postfix (mark Arrow ∷ y) b a o = absurd (a FieldOperator.Arrow refl)
+ends_postfix (mark OpenParenthesis ∷ y) b a o = absurd (o refl)
+ends_postfix _ b a o = omega arith
 
 -- a closing word that is missing
 
@@ -257,20 +227,14 @@ closed_role (Operating o) k x t i h g e =
 closed_role Ending k x t i h g e = ap (λ (s : Phrase × Cont). end_at s.0 s.1 t) (closed_settles 0 x k h) ∙ e
 closed_role _ k x t i h g e = absurd (omega (arith, floor_most k))
 
-closed_word : (k : Cont) (x : Phrase) (t : Word) → IsClosed k → grip_of (role t) < max 1 (floor k) → end_at x k t ≡ None → have (role t) x k t ≡ None
-closed_word k x t h g e = closed_role (role t) k x t refl h g e
-
 pub closed_stuck : (k : Cont) (x : Phrase) (ts : List Word) → IsClosed k → grip ts < max 1 (floor k) → EndsNot k x ts → reads_within ts (At [] (Have x k)) ≡ StuckAt ts
 closed_stuck k x [] h g e = refl
-closed_stuck k x (t ∷ y) h g e = ap (λ o. next_within o (λ s. reads_within y s) (t ∷ y)) (closed_word k x t h g e)
-
-front_ends : (h : Front) (x : Phrase) (k : Cont) (t : Word) → (t ≡ mark CloseParenthesis → ⊥) → front_end h x k t ≡ None
-front_ends h x k (mark CloseParenthesis) n = absurd (n refl)
-front_ends h x k _ n = refl
+closed_stuck k x (t ∷ y) h g e = ap (λ o. next_within o (λ s. reads_within y s) (t ∷ y)) (closed_role (role t) k x t refl h g e)
 
 front_not : (h : Front) (x : Phrase) (k : Cont) (ts : List Word) → NotAt (mark CloseParenthesis) ts → EndsNot (fronted h k) x ts
 front_not h x k [] n = tt
-front_not h x k (t ∷ y) n = front_ends h x k t n
+front_not h x k (mark CloseParenthesis ∷ y) n = absurd (n refl)
+front_not h x k (_ ∷ y) n = refl
 
 -- the `)` is missing
 pub front_missing : (h : Front) (x : Phrase) (k : Cont) (ts : List Word) → NotAt (mark CloseParenthesis) ts → grip ts < max 1 (front_level h) → reads_within ts (At [] (Have x (fronted h k))) ≡ StuckAt ts
@@ -311,12 +275,7 @@ longer s n m list all e is placed at stands =
     let p : phrases_of all ≡ with_last (phrases_of list) (phrase_of e) = ap phrases_of is ∙ phrases_more list e in
     record {
       phrases = p;
-      stands =
-          ap view_arguments is ∙ view_arguments-push list e
-          ∙ ap (λ v. tree.with_argument v (view_expr e)) placed
-          ∙ ap (tree.with_argument (arguments_at s n (phrases_of list))) stands
-          ∙ sym (arguments_more s n m (phrases_of list) (phrase_of e) at)
-          ∙ ap (arguments_at s n) (sym p);
+      stands = cc (is, p, placed, stands, view_arguments-push list e, arguments_more s n m (phrases_of list) (phrase_of e) at);
       rest_is = ap rest_size p ∙ rest_size_more (phrases_of list) (phrase_of e);
       sizes_is = ap (λ z. sizes z + 1) p ∙ sizes_more (phrases_of list) (phrase_of e) ∙ ap rest_size (sym p);
       highest_is = ap highest p ∙ highest_more (phrases_of list) (phrase_of e);
@@ -338,12 +297,7 @@ over_view : (s : ℕ → Site) (n : ℕ) (x : Expr) (made : tree.Expression) →
 over_view s n x made e h = e ∙ h ∙ ap (λ v. expression_at s n (bare v)) (sym e)
 
 pub binary_stands : (s : ℕ → Site) (n m : ℕ) (x : Expr) (sp : Span) (o : BinaryOperator) (pl : Site) (va vb : tree.Expression) → view_expr x ≡ tree.binary sp o pl va vb → sp ≡ span_at s n (size (bare va) + size (bare vb) + 1) → pl ≡ s (n + size (bare va)) → va ≡ expression_at s n (bare va) → vb ≡ expression_at s m (bare vb) → m ≡ n + size (bare va) + 1 → view_expr x ≡ expression_at s n (bare (view_expr x))
-binary_stands s n m x sp o pl va vb e a b c d f =
-    over_view s n x (tree.binary sp o pl va vb) e
-    (ap (λ z. tree.binary z o pl va vb) a
-    ∙ ap (λ z. tree.binary (span_at s n (size (bare va) + size (bare vb) + 1)) o z va vb) b
-    ∙ ap (λ z. tree.binary (span_at s n (size (bare va) + size (bare vb) + 1)) o (s (n + size (bare va))) z vb) c
-    ∙ ap (λ z. tree.binary (span_at s n (size (bare va) + size (bare vb) + 1)) o (s (n + size (bare va))) (expression_at s n (bare va)) z) (d ∙ ap (λ i. expression_at s i (bare vb)) f))
+binary_stands s n m x sp o pl va vb e a b c d f = over_view s n x (tree.binary sp o pl va vb) e (cc)
 
 abbrev named_at : Site → List ℕ → Identifier
 named_at z text = record { site = z; text = text }
@@ -352,28 +306,11 @@ name_stands : (s : ℕ → Site) (m k : ℕ) (i : Identifier) → i.site ≡ s m
 name_stands s m k i e f = ap (λ (z : Site). named_at z i.text) (e ∙ ap s f)
 
 pub field_stands : (s : ℕ → Site) (n m : ℕ) (x : Expr) (sp : Span) (va : tree.Expression) (a : FieldOperator) (i : Identifier) → view_expr x ≡ tree.field sp va a i → sp ≡ span_at s n (size (bare va) + 2) → va ≡ expression_at s n (bare va) → i.site ≡ s m → m ≡ n + size (bare va) + 1 → view_expr x ≡ expression_at s n (bare (view_expr x))
-field_stands s n m x sp va a i e b c d f =
-    over_view s n x (tree.field sp va a i) e
-    (ap (λ z. tree.field z va a i) b
-    ∙ ap (λ z. tree.field (span_at s n (size (bare va) + 2)) z a i) c
-    ∙ ap (λ z. tree.field (span_at s n (size (bare va) + 2)) (expression_at s n (bare va)) a z) (name_stands s m (n + size (bare va) + 1) i d f))
+field_stands s n m x sp va a i e b c d f = over_view s n x (tree.field sp va a i) e (let h = name_stands s m (n + size (bare va) + 1) i d f in cc)
 
 front_stands : (tokens : List Token) (n mid : ℕ) (sp : Span) (f : ParsedFront) (va : tree.Expression) → sp ≡ span_at (site_in tokens) n (front_size (bare_front f) + size (bare va) + 1) → StandsFront f tokens n → va ≡ expression_at (site_in tokens) mid (bare va) → mid ≡ n + front_size (bare_front f) → (front_tree sp f va ≡ expression_at (site_in tokens) n (bare (front_tree sp f va))) × (size (bare (front_tree sp f va)) ≡ front_size (bare_front f) + size (bare va) + 1)
-front_stands tokens n mid sp fronts.Parenthesis va a b c d = (ap (λ z. tree.parentheses z va) a ∙ ap (tree.parentheses (span_at (site_in tokens) n (1 + size (bare va) + 1))) (c ∙ ap (λ i. expression_at (site_in tokens) i (bare va)) d), refl)
-front_stands tokens n mid sp (fronts.Spawn f) va a b c d = (
-  ap (λ z. tree.spawn z f va) a
-      ∙ ap (λ z. tree.spawn (span_at (site_in tokens) n (4 + size (bare va) + 1)) z va) (name_stands (site_in tokens) (n + 2) (n + 2) f b refl)
-      ∙ ap (tree.spawn (span_at (site_in tokens) n (4 + size (bare va) + 1)) (name_at (site_in tokens) (n + 2) f.text)) (c ∙ ap (λ i. expression_at (site_in tokens) i (bare va)) d),
-  refl,
-)
-front_stands tokens n mid sp (fronts.Value w) va a b c d = (ap (λ z. tree.on_value z w va) a ∙ ap (tree.on_value (span_at (site_in tokens) n (2 + size (bare va) + 1)) w) (c ∙ ap (λ i. expression_at (site_in tokens) i (bare va)) d), refl)
-front_stands tokens n mid sp (fronts.Place w) va a b c d = (ap (λ z. tree.on_place z w va) a ∙ ap (tree.on_place (span_at (site_in tokens) n (front_size (of_place w) + size (bare va) + 1)) w) (c ∙ ap (λ i. expression_at (site_in tokens) i (bare va)) d), refl)
-front_stands tokens n mid sp (fronts.Cast t) va a b c d = (
-  ap (λ z. tree.cast z t va) a
-      ∙ ap (λ z. tree.cast (span_at (site_in tokens) n (type_size (bare_type t) + 3 + size (bare va) + 1)) z va) b
-      ∙ ap (tree.cast (span_at (site_in tokens) n (type_size (bare_type t) + 3 + size (bare va) + 1)) (type_at (site_in tokens) (n + 2) (bare_type t))) (c ∙ ap (λ i. expression_at (site_in tokens) i (bare va)) d),
-  refl,
-)
+front_stands tokens n mid sp (fronts.Spawn f) va a b c d = (let h = name_stands (site_in tokens) (n + 2) (n + 2) f b refl in cc, refl)
+front_stands tokens n mid sp _ va a b c d = (cc, refl)
 
 pub front_placed : (result : Result ParsedExpr ReadingFault) (tokens : List Token) (old mid new h : ℕ) (sp : Span) (f : ParsedFront) (va : tree.Expression) → Builds result (front_tree sp f va) h → sp ≡ span_at (site_in tokens) old (front_size (bare_front f) + size (bare va) + 1) → StandsFront f tokens old → mid ≡ old + front_size (bare_front f) → va ≡ expression_at (site_in tokens) mid (bare va) → new ≡ mid + size (bare va) + 1 → IsPlaced result tokens old new
 front_placed (Ok r) tokens old mid new h sp f va b a g d c e =

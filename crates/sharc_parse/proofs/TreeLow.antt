@@ -1,5 +1,5 @@
 -- The tree of a program within the limits is low.
-use Rattle.sharc_parse.proofs.{Imports.{◌≡◌, ℕ, ◌+◌, ◌≤◌, ◌<◌, List, [], ◌∷◌, length, Option, Some, None, refl, sym, ap, arith, subst, max, Bool, true, false, cond, IfSome, is_cast, is_call_of, is_unary, low_height, low_highest, stars, LowType, NoModesOf, LowTypes, AllLowTypes, LowExpression, LowRight, LowSimple, LowLocal, LowFirst, LowHead, is_statement, LowStatement, LowStatements, LowDeclarations, LowForm, LowItem, LowItems, IsLow, Site, Span, Tokens, Base, Mode, WrittenType, Constant, Sharing, Typing, Declaring, Front, of_spawn, of_value, of_place, of_cast, Phrase, enclosed, call, index, field, unary, binary, Phrases, none, more, Value, value, malloc, Doing, assign, invoke, Declared, Line, nothing, does, declares, Loop, Sentence, line, jump, return, block, under, Sentences, no_more, sentence, Opening, if_of, else_of, while_of, for_of, Form, initially, Part, structure, global, function, IsProgram, level, front_level, is_declaring, FitsList, FitsType, NoModes, FitsFront, Fits, FitAll, is_call, is_declaration, FitsOption, FitsCount, FitsValue, FitsDoing, FitsInitial, FitsLine, FitsStep, FitsAs, FitAllAs, FitsOpening, FitAllDeclaring, FitsForm, FitsFields, FitsPart, stars_in, FewStars, FewFront, Few, FewAll, Low, LowOption, LowValue, LowDoing, LowInitial, LowLine, LowStep, LowSentence, LowAll, LowOpening, FewGiven, LowPart, LowProgram, Reads, site_in, base_size, levels_size, type_size, size, declaring_size, levels_at, bottom_at, level_at, type_at, front_at, expression_at, arguments_at, option_at, value_at, doing_at, initial_at, step_at, front_size, local_at, first_at, head_at, line_at, statement_at, statements_at, under_at, declarations_at, form_at, item_at, items_at, count_size, line_size, option_size, sentence_size, part_size, weak}, Readings.{same_height, same_function}}
+use Rattle.sharc_parse.proofs.{Imports.{◌≡◌, ℕ, ◌+◌, ◌≤◌, ◌<◌, List, [], ◌∷◌, length, Option, Some, None, refl, sym, ap, arith, subst, max, Bool, true, false, cond, IfSome, is_cast, is_call_of, is_unary, low_height, low_highest, stars, LowType, NoModesOf, LowTypes, AllLowTypes, LowExpression, LowRight, LowSimple, LowLocal, LowFirst, LowHead, is_statement, LowStatement, LowStatements, LowDeclarations, LowForm, LowItem, LowItems, IsLow, Site, Span, Tokens, Base, Mode, WrittenType, Constant, Sharing, Typing, Declaring, Front, of_spawn, of_place, of_cast, Phrase, enclosed, call, index, field, unary, binary, Phrases, none, more, Value, value, malloc, Doing, assign, invoke, Declared, Line, nothing, does, declares, Loop, Sentence, line, jump, return, block, under, Sentences, no_more, sentence, Opening, if_of, else_of, while_of, for_of, Form, initially, Part, structure, global, function, IsProgram, level, front_level, is_declaring, FitsList, FitsType, NoModes, FitsFront, Fits, FitAll, is_call, is_declaration, FitsOption, FitsCount, FitsValue, FitsDoing, FitsInitial, FitsLine, FitsStep, FitsAs, FitAllAs, FitsOpening, FitAllDeclaring, FitsForm, FitsFields, FitsPart, stars_in, FewStars, FewFront, Few, FewAll, Low, LowOption, LowValue, LowDoing, LowInitial, LowLine, LowStep, LowSentence, LowAll, LowOpening, FewGiven, LowPart, LowProgram, Reads, site_in, base_size, levels_size, type_size, size, declaring_size, levels_at, bottom_at, level_at, type_at, front_at, expression_at, arguments_at, option_at, value_at, doing_at, initial_at, step_at, front_size, local_at, first_at, head_at, line_at, statement_at, statements_at, under_at, declarations_at, form_at, item_at, items_at, count_size, line_size, option_size, sentence_size, part_size, weak}, Readings.{same_height, same_function}}
 use Rattle.sharc_tree.specs.Tree as tree
 use Rattle.sharc_tree.specs.Measures as measures
 
@@ -76,9 +76,6 @@ unary_at s n _ h = refl
 
 call_at : (s : ℕ → Site) (n : ℕ) (x : Phrase) → is_call x ≡ true → is_call_of (expression_at s n x) ≡ true
 call_at s n (enclosed (of_spawn f) a) h = refl
-call_at s n (enclosed (of_value w) a) h = refl
-call_at s n (enclosed (of_place w) a) h = refl
-call_at s n (call f all) h = refl
 call_at s n _ h = cc
 
 -- expressions

@@ -1,5 +1,5 @@
 -- The machine's steps over types.
-use Rattle.sharc_parse.proofs.{Imports.{◌≡◌, ℕ, suc, ◌+◌, ◌≤◌, ◌<◌, List, [], ◌∷◌, length, Option, Some, None, refl, sym, ap, ◌∙◌, arith, subst, Bool, true, false, cond, le-leb, lt-leb, Keyword, OpenParenthesis, CloseParenthesis, OpenBrace, Comma, Arrow, Star, Base, Token, Site, Span, Mode, WrittenType, Word, name, keyword, mark, Sharing, private, readonly, racy, dynamic, locked, locked_through, Typing, of_cast, Cont, Want, fronted, ModePlace, before_base, at_level, moded, TypePlace, casting, takes_modes, TypeWant, ModeFirst, StructWant, Typed, PathWant, PathNamed, PathThrough, an_open, a_close, At, or_else, mode_step, base_step, based, begin_type, typed, level_step, path_named, StuckAt, Over, next_within, reads_within, over_core, over, depth, crowded, site_in, level_size, levels_size, levels_at, level_at, base_place, span_at, type_size, ModeWord, BaseWord, NotAt, IsAt, NoName, from, Past, ReadingFault, Memory, Wrong, Bottom, bare_level, bare_type, typed_levels, typed_state, ReadsLevel, IsModeRestPlaced, IsModePlaced, ReadsBottom, EndsBottom, IsBottomPlaced, ReadsType, EndsType, IsTypePlaced, ReadsCast, mode_word, NoMode, HasMode, mode_within, after_mode, base_word, NoBase, base_within, EndsLevel, EndsLevels, map, insert, Ok, Err}, Steps.{passes, fails, fixed_goes, fine}, Complete.{idle as cond_none}}
+use Rattle.sharc_parse.proofs.{Imports.{◌≡◌, ℕ, suc, ◌+◌, ◌≤◌, ◌<◌, List, [], ◌∷◌, length, Option, Some, None, refl, sym, ap, ◌∙◌, arith, subst, Bool, true, false, cond, le-leb, lt-leb, Keyword, OpenParenthesis, CloseParenthesis, Comma, Arrow, Star, Base, Token, Site, Span, Mode, WrittenType, Word, name, keyword, mark, Sharing, locked, locked_through, Typing, of_cast, Cont, Want, fronted, ModePlace, before_base, at_level, moded, TypePlace, casting, takes_modes, TypeWant, ModeFirst, StructWant, Typed, PathWant, PathNamed, PathThrough, an_open, a_close, At, or_else, mode_step, base_step, begin_type, typed, level_step, StuckAt, Over, next_within, reads_within, over_core, over, depth, crowded, site_in, level_size, levels_size, levels_at, level_at, base_place, span_at, type_size, ModeWord, BaseWord, NotAt, IsAt, NoName, from, Past, ReadingFault, Memory, Wrong, Bottom, bare_level, bare_type, typed_levels, typed_state, ReadsLevel, IsModeRestPlaced, IsModePlaced, ReadsBottom, EndsBottom, IsBottomPlaced, ReadsType, EndsType, IsTypePlaced, ReadsCast, mode_word, NoMode, HasMode, mode_within, after_mode, base_word, NoBase, base_within, EndsLevel, EndsLevels, map, insert, Ok, Err, based, type_at, OpenBrace}, Steps.{passes, fixed_goes, fine, deep}, Complete.idle as cond_none}
 use Rattle.sharc_parse.specs.Types.{IsOpen}
 
 -- there is a level, and so the mode passes no limit
@@ -25,14 +25,10 @@ path_arrow p n y = refl
 pub path_ends : (p : ModePlace) (n : List ℕ) (y : List Word) → IsOpen p → reads_within (mark CloseParenthesis ∷ y) (At [] (PathNamed p n)) ≡ reads_within y (At [] (moded p (locked n)))
 path_ends p n y h = passes (At [] (moded p (locked n))) y (mark CloseParenthesis ∷ y) (moded_fine p (locked n) h)
 
-path_not : (p : ModePlace) (n : List ℕ) (t : Word) → (t ≡ mark Arrow → ⊥) → (t ≡ mark CloseParenthesis → ⊥) → path_named p n t ≡ None
-path_not p n (mark CloseParenthesis) a c = absurd (c refl)
-path_not p n (mark Arrow) a c = absurd (a refl)
-path_not p n _ a c = refl
-
 pub path_ends_not : (p : ModePlace) (n : List ℕ) (ts : List Word) → NotAt (mark Arrow) ts → NotAt (mark CloseParenthesis) ts → reads_within ts (At [] (PathNamed p n)) ≡ StuckAt ts
-path_ends_not p n [] a c = refl
-path_ends_not p n (t ∷ y) a c = ap (λ o. next_within o (λ s. reads_within y s) (t ∷ y)) (path_not p n t a c)
+path_ends_not p n (mark CloseParenthesis ∷ y) a c = absurd (c refl)
+path_ends_not p n (mark Arrow ∷ y) a c = absurd (a refl)
+path_ends_not p n _ a c = refl
 
 pub path_second : (p : ModePlace) (x m : List ℕ) (y : List Word) → IsOpen p → reads_within (name m ∷ y) (At [] (PathThrough p x)) ≡ reads_within y (At (a_close ∷ []) (moded p (locked_through x m)))
 path_second p x m y h = passes (At (a_close ∷ []) (moded p (locked_through x m))) y (name m ∷ y) (moded_fine p (locked_through x m) h)
@@ -51,11 +47,8 @@ mode_steps ModeWord.Racy p = refl
 mode_steps _ p = refl
 
 after_fine : (w : ModeWord) (p : ModePlace) → IsOpen p → over (after_mode w p) ≡ false
-after_fine ModeWord.Private p h = moded_fine p private h
-after_fine ModeWord.Readonly p h = moded_fine p readonly h
-after_fine ModeWord.Racy p h = moded_fine p racy h
-after_fine ModeWord.Dynamic p h = moded_fine p dynamic h
 after_fine ModeWord.Locked p h = refl
+after_fine _ p h = moded_fine p _ h
 
 pub mode_goes : (w : ModeWord) (p : ModePlace) (y : List Word) → IsOpen p → mode_within p (mode_word w ∷ y) ≡ reads_within y (after_mode w p)
 mode_goes w p y h = ap (λ o. next_within o (λ s. reads_within y s) (mode_word w ∷ y)) (mode_steps w p) ∙ passes (after_mode w p) y (mode_word w ∷ y) (after_fine w p h)
@@ -151,11 +144,8 @@ mode_first p s [] = refl
 mode_first p s (t ∷ y) = refl
 
 level_mode : (p : TypePlace) (first : Bool) (b : Base) (below : List (Option Sharing)) (w : ModeWord) → takes_modes p ≡ true → typed p first b None below (mode_word w) ≡ mode_step (at_level p first b below) (mode_word w)
-level_mode p first b below ModeWord.Private e = ap (λ c. cond c (mode_step (at_level p first b below) (keyword Keyword.Private)) None) e
-level_mode p first b below ModeWord.Readonly e = ap (λ c. cond c (mode_step (at_level p first b below) (keyword Keyword.Readonly)) None) e
-level_mode p first b below ModeWord.Racy e = ap (λ c. cond c (mode_step (at_level p first b below) (keyword Keyword.Racy)) None) e
-level_mode p first b below ModeWord.Dynamic e = ap (λ c. cond c (mode_step (at_level p first b below) (keyword Keyword.Dynamic)) None) e
-level_mode p first b below ModeWord.Locked e = ap (λ c. cond c (mode_step (at_level p first b below) (keyword Keyword.Locked)) None) e
+level_mode p first b below ModeWord.Racy e = rw e refl
+level_mode p first b below _ e = rw e refl
 
 -- a mode after the base or a star
 pub mode_behind : (p : TypePlace) (first : Bool) (b : Base) (below : List (Option Sharing)) (ts : List Word) → takes_modes p ≡ true → HasMode ts → reads_within ts (At [] (Typed p first b None below)) ≡ mode_within (at_level p first b below) ts
@@ -171,11 +161,7 @@ pub star_goes : (p : TypePlace) (first : Bool) (b : Base) (m : Option Sharing) (
 star_goes p first b m below y h = passes (At [] (Typed p first b None (m ∷ below))) y (mark Star ∷ y) (lt-leb 9 (length (m ∷ below)) (omega (arith, h)))
 
 pub star_deep : (p : TypePlace) (first : Bool) (b : Base) (m : Option Sharing) (below : List (Option Sharing)) (ts : List Word) → IsAt (mark Star) ts → 9 ≤ length below + 1 → reads_within ts (At [] (Typed p first b m below)) ≡ Over ts
-star_deep p first b m below [] a h = absurd a
-star_deep p first b m below (t ∷ y) a h =
-    ap (λ u. reads_within (u ∷ y) (At [] (Typed p first b m below))) a
-    ∙ fails (At [] (Typed p first b None (m ∷ below))) y (mark Star ∷ y) (le-leb 9 (length (m ∷ below)) (omega (arith, h)))
-    ∙ ap (λ u. Over (u ∷ y)) (sym a)
+star_deep p first b m below ts a h = deep (Typed p first b m below) (mark Star) (At [] (Typed p first b None (m ∷ below))) ts a refl (le-leb 9 (length (m ∷ below)) (omega (arith, h)))
 
 -- a whole type
 
@@ -287,9 +273,7 @@ made_type sp first place b levels = record { span = sp; mode_first = first; base
 
 pub type_stands : (modes : Bool) (tokens : List Token) (n at : ℕ) (t : WrittenType) → SoFar modes tokens n at t.mode_first t.ctype.base t.base t.ctype.levels → t.span ≡ span_at (site_in tokens) n (type_size (bare_type t)) → IsTypePlaced (Ok t) tokens n at
 type_stands modes tokens n at t z h = (
-  ap (λ s. made_type s t.mode_first t.base t.ctype.base t.ctype.levels) h
-      ∙ ap (λ s. made_type (span_at (site_in tokens) n (type_size (bare_type t))) t.mode_first s t.ctype.base t.ctype.levels) z.based
-      ∙ ap (λ s. made_type (span_at (site_in tokens) n (type_size (bare_type t))) t.mode_first (site_in tokens (base_place t.mode_first t.ctype.base (map bare_level t.ctype.levels) n)) t.ctype.base s) z.stands,
+  let is : made_type t.span t.mode_first t.base t.ctype.base t.ctype.levels ≡ type_at (site_in tokens) n (bare_type t) = cc (h, z.based, z.stands) in is,
   z.at_is,
 )
 
@@ -298,7 +282,7 @@ type_stands modes tokens n at t z h = (
 pub cast_opens : (k : Cont) (y : List Word) → crowded k ≡ false → depth k < 64 → reads_within (mark OpenParenthesis ∷ y) (At (an_open ∷ []) (TypeWant (casting k))) ≡ reads_within y (At [] (TypeWant (casting k)))
 cast_opens k y c d = fixed_goes an_open [] (TypeWant (casting k)) y (fine k (depth k) c d)
 
-abbrev typing_with : Bool → Base → List (Option Sharing) → Typing
+abbrev pub typing_with : Bool → Base → List (Option Sharing) → Typing
 typing_with first b levels = record { mode_first = first; base = b; levels = levels }
 
 comma_goes : (k : Cont) (first : Bool) (b : Base) (levels : List (Option Sharing)) (y all : List Word) → EndsLevels true levels all → crowded k ≡ false → depth k < 64 → reads_within (mark Comma ∷ y) (typed_levels (casting k) first b levels) ≡ reads_within y (At [] (Want (fronted (of_cast (typing_with first b levels)) k)))
@@ -313,18 +297,15 @@ pub no_level : (p : TypePlace) (first : Bool) (b : Base) (m : Option Sharing) (b
 no_level p first b None below t y e h = ap (λ c. cond c (mode_step (at_level p first b below) t) None) e ∙ no_mode_step (at_level p first b below) t h
 no_level p first b (Some s) below t y e h = refl
 
-cast_ends : (k : Cont) (first : Bool) (b : Base) (m : Option Sharing) (below : List (Option Sharing)) (t : Word) (y : List Word) → EndsLevel true m (t ∷ y) → (t ≡ mark Star → ⊥) → (t ≡ mark Comma → ⊥) → typed (casting k) first b m below t ≡ None
-cast_ends k first b m below (mark Star) y e s c = absurd (s refl)
-cast_ends k first b m below (name n) y e s c = refl
-cast_ends k first b m below (mark Comma) y e s c = absurd (c refl)
-cast_ends k first b m below (mark CloseParenthesis) y e s c = refl
-cast_ends k first b m below (mark OpenBrace) y e s c = refl
-cast_ends k first b m below t y e s c = no_level (casting k) first b m below t y refl e
-
 stuck_levels : (k : Cont) (first : Bool) (b : Base) (levels : List (Option Sharing)) (ts : List Word) → EndsLevels true levels ts → NotAt (mark Comma) ts → reads_within ts (typed_levels (casting k) first b levels) ≡ StuckAt ts
 stuck_levels k first b [] ts e c = absurd e
 stuck_levels k first b (m ∷ below) [] e c = refl
-stuck_levels k first b (m ∷ below) (t ∷ y) e c = ap (λ o. next_within o (λ s. reads_within y s) (t ∷ y)) (cast_ends k first b m below t y e.0 e.1 c)
+stuck_levels k first b (m ∷ below) (mark Star ∷ y) e c = absurd (e.1 refl)
+stuck_levels k first b (m ∷ below) (name n ∷ y) e c = refl
+stuck_levels k first b (m ∷ below) (mark Comma ∷ y) e c = absurd (c refl)
+stuck_levels k first b (m ∷ below) (mark CloseParenthesis ∷ y) e c = refl
+stuck_levels k first b (m ∷ below) (mark OpenBrace ∷ y) e c = refl
+stuck_levels k first b (m ∷ below) (t ∷ y) e c = ap (λ o. next_within o (λ s. reads_within y s) (t ∷ y)) (no_level (casting k) first b m below t y refl e.0)
 
 pub cast_stuck : (k : Cont) (t : WrittenType) (ts : List Word) → EndsType true (Ok t) ts → NotAt (mark Comma) ts → reads_within ts (typed_state (casting k) (bare_type t)) ≡ StuckAt ts
 cast_stuck k t ts e c = stuck_levels k t.mode_first t.ctype.base (map bare_level t.ctype.levels) ts e c

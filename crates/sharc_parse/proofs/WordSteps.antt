@@ -1,5 +1,5 @@
 -- The machine's steps over the first words of statements.
-use Rattle.sharc_parse.proofs.{Imports.{◌≡◌, ℕ, ◌+◌, ◌≤◌, ◌<◌, List, [], ◌∷◌, Some, None, refl, sym, ap, ◌∙◌, arith, true, false, lt-leb, le-leb, Keyword, OpenParenthesis, CloseParenthesis, OpenBrace, CloseBrace, Word, keyword, mark, Phrase, Outer, inside, as_statement, Asked, condition, part, Want, Have, Start, an_open, At, leave, asked, start, line_start, grip, StuckAt, Over, next_within, reads_within, around_it, over, StatementWord, If, While, For, Return, Break, Continue, NotAt, IsAt, line_within, statement_word, room_of, NoStatement, after_word}, Steps.{passes, fails, fixed_goes}, RightSteps.ends_place}
+use Rattle.sharc_parse.proofs.{Imports.{◌≡◌, ℕ, ◌+◌, ◌≤◌, ◌<◌, List, [], ◌∷◌, Some, None, refl, ap, ◌∙◌, arith, true, false, lt-leb, le-leb, Keyword, OpenParenthesis, CloseParenthesis, OpenBrace, CloseBrace, Word, keyword, mark, Phrase, Outer, inside, as_statement, Asked, condition, part, Want, Have, Start, an_open, At, leave, asked, start, grip, StuckAt, Over, next_within, reads_within, around_it, over, StatementWord, If, While, For, Return, Break, Continue, NotAt, IsAt, line_within, statement_word, room_of, NoStatement, after_word}, Steps.{passes, fixed_goes, deep}, RightSteps.ends_place}
 
 start_step : (w : StatementWord) (o : Outer) → start o (statement_word w) ≡ Some (after_word w o)
 start_step If o = refl
@@ -21,28 +21,19 @@ pub word_goes : (w : StatementWord) (o : Outer) (room : ℕ) (y : List Word) →
 word_goes w o room y e h = ap (λ n. next_within n (λ s. reads_within y s) (statement_word w ∷ y)) (start_step w o) ∙ passes (after_word w o) y (statement_word w ∷ y) (word_fine w o room e h)
 
 pub word_over : (w : StatementWord) (o : Outer) (room : ℕ) (ts : List Word) → IsAt (statement_word w) ts → around_it o + room ≡ 64 → room < room_of w → reads_within ts (At [] (Start o)) ≡ Over ts
-word_over w o room [] a e h = absurd a
-word_over w o room (t ∷ y) a e h =
-    ap (λ u. reads_within (u ∷ y) (At [] (Start o))) a
-    ∙ ap (λ n. next_within n (λ s. reads_within y s) (statement_word w ∷ y)) (start_step w o)
-    ∙ fails (after_word w o) y (statement_word w ∷ y) (word_deep w o room e h)
-    ∙ ap (λ u. Over (u ∷ y)) (sym a)
-
-no_word_step : (o : Outer) (t : Word) → ((w : StatementWord) → t ≡ statement_word w → ⊥) → (t ≡ mark OpenBrace → ⊥) → (t ≡ mark CloseBrace → ⊥) → start o t ≡ line_start as_statement o t
-no_word_step o (keyword Keyword.If) h a b = absurd (h If refl)
-no_word_step o (keyword Keyword.While) h a b = absurd (h While refl)
-no_word_step o (keyword Keyword.For) h a b = absurd (h For refl)
-no_word_step o (keyword Keyword.Return) h a b = absurd (h Return refl)
-no_word_step o (keyword Keyword.Break) h a b = absurd (h Break refl)
-no_word_step o (keyword Keyword.Continue) h a b = absurd (h Continue refl)
-no_word_step o (mark OpenBrace) h a b = absurd (a refl)
-no_word_step o (mark CloseBrace) h a b = absurd (b refl)
-no_word_step o _ h a b = refl
+word_over w o room ts a e h = deep (Start o) (statement_word w) (after_word w o) ts a (start_step w o) (word_deep w o room e h)
 
 -- any other statement is a line
 pub line_there : (o : Outer) (ts : List Word) → NoStatement ts → NotAt (mark OpenBrace) ts → NotAt (mark CloseBrace) ts → reads_within ts (At [] (Start o)) ≡ line_within as_statement o ts
-line_there o [] h a b = refl
-line_there o (t ∷ y) h a b = ap (λ n. next_within n (λ s. reads_within y s) (t ∷ y)) (no_word_step o t h a b)
+line_there o (keyword Keyword.If ∷ y) h a b = absurd (h If refl)
+line_there o (keyword Keyword.While ∷ y) h a b = absurd (h While refl)
+line_there o (keyword Keyword.For ∷ y) h a b = absurd (h For refl)
+line_there o (keyword Keyword.Return ∷ y) h a b = absurd (h Return refl)
+line_there o (keyword Keyword.Break ∷ y) h a b = absurd (h Break refl)
+line_there o (keyword Keyword.Continue ∷ y) h a b = absurd (h Continue refl)
+line_there o (mark OpenBrace ∷ y) h a b = absurd (a refl)
+line_there o (mark CloseBrace ∷ y) h a b = absurd (b refl)
+line_there o _ h a b = refl
 
 -- conditions
 

@@ -26,10 +26,7 @@ pub settle_stops : (l : ℕ) (x : Phrase) (k : Cont) → l < 11 → floor k ≤ 
 settle_stops l x (beneath u k) w h = absurd (not-le_of_lt w h)
 settle_stops l x (right_of a o k) w h =
     ap (λ b. cond b (settle l (binary o a x) k) (x, right_of a o k)) (lt-leb l (strength o) h)
-settle_stops l x (part p o) w h = refl
-settle_stops l x (fronted f k) w h = refl
-settle_stops l x (indexing a k) w h = refl
-settle_stops l x (arguments f all k) w h = refl
+settle_stops l x _ w h = refl
 
 settle_binary : (l : ℕ) (a b : Phrase) (o : BinaryOperator) (k : Cont) → l ≤ strength o
     → settle l b (right_of a o k) ≡ settle l (binary o a b) k
@@ -44,9 +41,7 @@ pub role_binary : (r : Role) (t : Word) (a b : Phrase) (o : BinaryOperator) (k :
 role_binary (Operating q) t a b o k h =
     ap (λ (s : Phrase × Cont). shift q s.0 s.1) (settle_binary (strength q) a b o k h)
 role_binary Ending t a b o k h = ap (λ (s : Phrase × Cont). end_at s.0 s.1 t) (settle_binary 0 a b o k h)
-role_binary Calling t a b o k h = absurd (tight_not o h)
-role_binary Indexing t a b o k h = absurd (tight_not o h)
-role_binary (Accessing w) t a b o k h = absurd (tight_not o h)
+role_binary _ t a b o k h = absurd (tight_not o h)
 
 tightest_not : 12 ≤ 11 → ⊥
 tightest_not = not-le_of_lt (lit< tt)
@@ -56,24 +51,11 @@ pub role_unary : (r : Role) (t : Word) (u : UnaryOperator) (a : Phrase) (k : Con
     → have r a (beneath u k) t ≡ have r (unary u a) k t
 role_unary (Operating q) t u a k h = refl
 role_unary Ending t u a k h = refl
-role_unary Calling t u a k h = absurd (tightest_not h)
-role_unary Indexing t u a k h = absurd (tightest_not h)
-role_unary (Accessing w) t u a k h = absurd (tightest_not h)
+role_unary _ t u a k h = absurd (tightest_not h)
 
 -- an operand is never asked to hold together more tightly than one with an operator before it
 pub floor_most : (k : Cont) → floor k ≤ 11
 floor_most (right_of a o k) = weak o
-floor_most (beneath u k) = lit≤ tt
 floor_most (part (condition q) o) = lit≤ tt
-floor_most (part returning o) = lit≤ tt
-floor_most (part (testing l) o) = lit≤ tt
-floor_most (part (subject d) o) = lit≤ tt
-floor_most (part (valued v) o) = lit≤ tt
-floor_most (part (counting v) o) = lit≤ tt
 floor_most (fronted parenthesis k) = lit≤ tt
-floor_most (fronted (of_spawn f) k) = lit≤ tt
-floor_most (fronted (of_value w) k) = lit≤ tt
-floor_most (fronted (of_place w) k) = lit≤ tt
-floor_most (fronted (of_cast t) k) = lit≤ tt
-floor_most (indexing a k) = lit≤ tt
-floor_most (arguments f all k) = lit≤ tt
+floor_most _ = lit≤ tt

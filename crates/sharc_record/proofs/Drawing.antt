@@ -1,5 +1,5 @@
 -- A ticket may be drawn: its port goes to the end of the queue.
-use Rattle.sharc_record.proofs.{Imports.{◌≡◌, ℕ, ◌+◌, ◌%◌, ◌^◌, inl, inr, ⊎_elim, List, [], ◌∷◌, ◌++◌, length, slice_index, set as slice_set, refl, sym, ap, ◌∙◌, subst, arith, length-append, mod-add-mod, some, get_elem?, Me, Allows, keeps, at_set, at_last, Journal, Part, View, Slot, IsAmong, PartIs, TurnIs, JournalStands, JournalRule, idle, waiting, drawn}, Kept.{St, among_one, turn_longer, had_stays, idle_not_had}, Queue.{are_new_snoc, below_snoc}}
+use Rattle.sharc_record.proofs.{Imports.{Drawn, ◌≡◌, ℕ, ◌+◌, ◌%◌, ◌^◌, inl, inr, ⊎_elim, List, [], ◌∷◌, ◌++◌, length, slice_index, set as slice_set, refl, sym, ap, ◌∙◌, subst, arith, length-append, mod-add-mod, some, get_elem?, Me, Allows, keeps, at_set, at_last, Journal, Part, View, Slot, PartIs, TurnIs, JournalStands, JournalRule, idle, waiting, drawn}, Kept.{St, one_part_stays, turn_longer, had_stays, idle_not_had}, Queue.{are_new_snoc, below_snoc}}
 
 module _ (opened : Journal) (ports : ℕ) (s : St) (kept : JournalRule opened ports s) (id : ℕ) (p : Part) (at : get_elem? s.views id ≡ some (idle p).0) where
   abbrev found : ℕ
@@ -29,15 +29,6 @@ module _ (opened : Journal) (ports : ℕ) (s : St) (kept : JournalRule opened po
   words_after : after.words ≡ (kept.served + length longer) % 2 ^ 64 ∷ kept.served % 2 ^ 64 ∷ []
   words_after = ap (λ (ws : List ℕ). slice_set ws 0 ((found + 1) % 2 ^ 64)) kept.words_are ∙ ap (λ (n : ℕ). n ∷ kept.served % 2 ^ 64 ∷ []) next_is
 
-  parts_after : (seat : ℕ) (v : View) (part : Part) → get_elem? after.views seat ≡ some v → IsAmong part v.parts → PartIs opened ports kept.history kept.owner seat part
-  parts_after seat v part there among =
-      ⊎_elim
-      (λ same.
-      let is : part ≡ p = among_one part p (subst (λ (w : View). IsAmong part w.parts) (sym same.1) among) in
-      subst (λ (q : Part). PartIs opened ports kept.history kept.owner seat q) (sym is) (subst (λ n. PartIs opened ports kept.history kept.owner n p) (sym same.0) here))
-      (λ other. kept.parts_are seat v part other.1 among)
-      (at_set s.views id seat view v there)
-
   turns_after : (seat : ℕ) (v : View) → get_elem? after.views seat ≡ some v → TurnIs opened kept.history kept.served longer s.homes v.parts v.turn
   turns_after seat v there =
       ⊎_elim
@@ -61,7 +52,7 @@ module _ (opened : Journal) (ports : ℕ) (s : St) (kept : JournalRule opened po
     history = kept.history;
     legal = kept.legal;
     owner = kept.owner;
-    parts_are = parts_after;
+    parts_are = one_part_stays opened ports s kept id p (Drawn found) here;
     no_others = kept.no_others;
     served = kept.served;
     queue = longer;

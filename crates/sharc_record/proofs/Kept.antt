@@ -1,5 +1,5 @@
 -- What the rule keeps of other seats where one seat's view changes.
-use Rattle.sharc_record.proofs.{Imports.{◌≡◌, ◌≢◌, ℕ, zero, suc, ◌+◌, ◌%◌, ◌^◌, inl, ⊎_elim, List, [], ◌∷◌, ◌++◌, set as slice_set, refl, sym, ap, ◌∙◌, subst, arith, dite, some, none, some-injective, some-ne-none, ℕ_discrete, get_elem?, State, at_longer, set_else, WordEvent, Journal, Part, Turn, Idle, Drawn, Has, View, Slot, IsAmong, TurnIs}, Queue.new_snoc}
+use Rattle.sharc_record.proofs.{Imports.{PartIs, JournalStands, JournalRule, at_set, ◌≡◌, ◌≢◌, ℕ, zero, suc, ◌+◌, ◌%◌, ◌^◌, inl, ⊎_elim, List, [], ◌∷◌, ◌++◌, set as slice_set, refl, sym, ap, ◌∙◌, subst, arith, dite, some, none, some-injective, some-ne-none, ℕ_discrete, get_elem?, State, at_longer, set_else, WordEvent, Journal, Part, Turn, Idle, Drawn, Has, View, Slot, IsAmong, TurnIs}, Queue.new_snoc}
 use mathlib.Core.Option.{Option}
 
 abbrev pub St : Type 0
@@ -8,17 +8,11 @@ St = State Slot View
 abbrev pub Homes : Type 0
 Homes = List (Option Slot)
 
--- a turn that is had
-abbrev pub IsHad : Turn → Type 0
-IsHad Idle = ⊥
-IsHad (Drawn ticket) = ⊥
-IsHad (Has journal) = Unit {0}
-
 pub idle_not_had : (journal : Journal) → ¬ (Idle ≡ Has journal)
-idle_not_had journal e = subst IsHad (sym e) tt
+idle_not_had journal e = cc
 
 pub drawn_not_had : (ticket : ℕ) (journal : Journal) → ¬ (Drawn ticket ≡ Has journal)
-drawn_not_had ticket journal e = subst IsHad (sym e) tt
+drawn_not_had ticket journal e = cc
 
 -- one more is in the queue
 pub turn_longer : (opened : Journal) (history : List WordEvent) (served : ℕ) (queue : List ℕ) (homes : Homes) (n : ℕ) (parts : List Part) (turn : Turn)
@@ -67,3 +61,39 @@ turn_passed opened history later served n queue homes other parts (Has journal) 
 pub head_is : (n : ℕ) (queue : List ℕ) → get_elem? queue 0 ≡ some n → (q : List ℕ) × (queue ≡ n ∷ q)
 head_is n [] e = absurd (some-ne-none n (sym e))
 head_is n (x ∷ xs) e = (xs, ap (λ (m : ℕ). m ∷ xs) (some-injective x n e))
+
+-- ---- a table with other views
+-- the rule holds of it, in the same round with the same queue
+pub with_views : (opened : Journal) (ports : ℕ) (s next : St) (kept : JournalRule opened ports s) (owner : ℕ → ℕ) → next.words ≡ s.words
+    → ((seat : ℕ) (v : View) (part : Part) → get_elem? next.views seat ≡ some v → IsAmong part v.parts → PartIs opened ports kept.history owner seat part)
+    → ((seat : ℕ) (v : View) → get_elem? next.views seat ≡ some v → TurnIs opened kept.history kept.served kept.queue next.homes v.parts v.turn)
+    → JournalStands opened kept.history next → JournalRule opened ports next
+with_views opened ports s next kept owner words parts turns stands = record {
+  history = kept.history;
+  legal = kept.legal;
+  owner = owner;
+  parts_are = parts;
+  no_others = kept.no_others;
+  served = kept.served;
+  queue = kept.queue;
+  words_are = words ∙ kept.words_are;
+  once = kept.once;
+  few = kept.few;
+  bound = kept.bound;
+  turns_are = turns;
+  stands = stands;
+}
+
+abbrev pub alone : Part → Turn → View
+alone p turn = record { parts = p ∷ []; turn = turn }
+
+-- a seat with one part keeps it, whatever becomes of its turn
+pub one_part_stays : (opened : Journal) (ports : ℕ) (s : St) (kept : JournalRule opened ports s) (id : ℕ) (p : Part) (turn : Turn) → PartIs opened ports kept.history kept.owner id p
+    → (seat : ℕ) (v : View) (part : Part) → get_elem? (slice_set s.views id (alone p turn)) seat ≡ some v → IsAmong part v.parts → PartIs opened ports kept.history kept.owner seat part
+one_part_stays opened ports s kept id p turn here seat v part there among =
+    ⊎_elim
+    (λ same.
+    let is : part ≡ p = among_one part p (subst (λ (w : View). IsAmong part w.parts) (sym same.1) among) in
+    subst (λ (q : Part). PartIs opened ports kept.history kept.owner seat q) (sym is) (subst (λ n. PartIs opened ports kept.history kept.owner n p) (sym same.0) here))
+    (λ other. kept.parts_are seat v part other.1 among)
+    (at_set s.views id seat (alone p turn) v there)

@@ -1,5 +1,5 @@
 -- A port may look whether its ticket is served. If so it is the first of the queue, nobody has the turn, and it takes the journal.
-use Rattle.sharc_record.proofs.{Imports.{◌≡◌, ℕ, zero, suc, ◌+◌, ◌%◌, ◌^◌, ◌<◌, inl, inr, ⊎_elim, List, [], ◌∷◌, length, slice_index, set as slice_set, refl, sym, ap, ◌∙◌, subst, arith, Some, some, none, some-injective, ℕ_discrete, get_elem?, Me, Allows, keeps, takes, Act, Valid, carried_after, at_set, set_again, one_turn, set_here, HistoryLaws, Journal, Part, Has, View, Slot, IsAmong, IsRight, PartIs, TurnIs, JournalRule, waiting, having, Looked}, Kept.{St, Homes, among_one, one_part, turn_away, drawn_not_had}, Queue.{few_new, place_within}}
+use Rattle.sharc_record.proofs.{Imports.{◌≡◌, ℕ, zero, suc, ◌+◌, ◌%◌, ◌^◌, ◌<◌, inl, inr, ⊎_elim, List, [], ◌∷◌, length, slice_index, set as slice_set, refl, sym, ap, ◌∙◌, subst, arith, Some, some, none, some-injective, ℕ_discrete, get_elem?, Me, Allows, keeps, takes, Act, Valid, carried_after, at_set, set_again, one_turn, set_here, HistoryLaws, Journal, Part, Has, View, Slot, IsAmong, IsRight, PartIs, TurnIs, JournalRule, waiting, having, Looked}, Kept.{St, Homes, with_views, one_part_stays, among_one, one_part, turn_away, drawn_not_had}, Queue.{few_new, place_within}}
 use mathlib.Core.Option.{Option}
 use Rattle.atomic_table.specs.Table.{stepped}
 
@@ -67,15 +67,6 @@ module _ (opened : Journal) (ports : ℕ) (s : St) (kept : JournalRule opened po
     pub there : get_elem? s.homes 0 ≡ some (some (Some home.0))
     there = ap (λ (hs : Homes). get_elem? hs 0) home.1
 
-    parts_after : (seat : ℕ) (v : View) (part : Part) → get_elem? after.views seat ≡ some v → IsAmong part v.parts → PartIs opened ports kept.history kept.owner seat part
-    parts_after seat v part found among =
-        ⊎_elim
-        (λ same.
-        let is : part ≡ p = among_one part p (subst (λ (w : View). IsAmong part w.parts) (sym same.1) among) in
-        subst (λ (q : Part). PartIs opened ports kept.history kept.owner seat q) (sym is) (subst (λ n. PartIs opened ports kept.history kept.owner n p) (sym same.0) here))
-        (λ other. kept.parts_are seat v part other.1 among)
-        (at_set s.views id seat view v found)
-
     turns_after : (seat : ℕ) (v : View) → get_elem? after.views seat ≡ some v → TurnIs opened kept.history kept.served kept.queue after.homes v.parts v.turn
     turns_after seat v found =
         ⊎_elim
@@ -89,21 +80,8 @@ module _ (opened : Journal) (ports : ℕ) (s : St) (kept : JournalRule opened po
     within (x ∷ xs) v (suc i) e = omega (arith, within xs v i e)
 
     pub hits : JournalRule opened ports after
-    hits = record {
-      history = kept.history;
-      legal = kept.legal;
-      owner = kept.owner;
-      parts_are = parts_after;
-      no_others = kept.no_others;
-      served = kept.served;
-      queue = kept.queue;
-      words_are = words_same ∙ kept.words_are;
-      once = kept.once;
-      few = kept.few;
-      bound = kept.bound;
-      turns_are = turns_after;
-      stands = inr (id, view, home.0, set_here s.views id view (within s.views (waiting p ticket).0 id at), refl);
-    }
+    hits = with_views opened ports s after kept kept.owner words_same (one_part_stays opened ports s kept id p (Has home.0) here) turns_after
+        (inr (id, view, home.0, set_here s.views id view (within s.views (waiting p ticket).0 id at), refl))
 
     pub counts : (laws : HistoryLaws) (part : Part) → IsAmong part (p ∷ []) → length home.0.words ≡ part.count
     counts laws part among =

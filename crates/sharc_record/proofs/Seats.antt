@@ -1,5 +1,5 @@
 -- The rule holds where a journal is taken in, and is kept where a seat is cut in two and where two become one.
-use Rattle.sharc_record.proofs.{Imports.{◌≡◌, ◌≢◌, ℕ, zero, suc, ◌+◌, ◌<◌, ◌≤◌, ◌^◌, ◌==◌, ◌⊎◌, ⊎_elim, inl, inr, List, [], ◌∷◌, ◌++◌, length, set as slice_set, refl, sym, ap, ◌∙◌, subst, arith, if◌then◌else◌, eq-eqb, ne_eqb, length-set, append-nil, Some, some, some-injective, some-ne-none, get_elem?, Splits, Joins, opening, at_set, at_longer, set_else, HistoryLaws, Journal, Part, Turn, Idle, View, IsAmong, IsNew, PartIs, TurnIs, JournalStands, JournalRule, unbegun, unbegun_view, first_of, others_of, joined, spent_view, if_false, if_true}, Kept.{St, idle_not_had, had_stays}, Members.{among_one, among_append}}
+use Rattle.sharc_record.proofs.{Imports.{◌≡◌, ◌≢◌, ℕ, zero, suc, ◌+◌, ◌<◌, ◌≤◌, ◌^◌, ◌==◌, ◌⊎◌, ⊎_elim, inl, inr, List, [], ◌∷◌, ◌++◌, length, set as slice_set, refl, sym, ap, ◌∙◌, subst, arith, if◌then◌else◌, eq-eqb, ne_eqb, length-set, append-nil, Some, some, some-injective, some-ne-none, get_elem?, Splits, Joins, opening, at_set, at_longer, set_else, HistoryLaws, Journal, Part, Turn, Idle, View, IsAmong, IsNew, PartIs, TurnIs, JournalStands, JournalRule, unbegun, unbegun_view, first_of, others_of, joined, spent_view, if_false, if_true}, Kept.{St, with_views, idle_not_had, had_stays}, Members.{among_one, among_append}}
 
 -- a part of a port that has not begun
 pub among_unbegun : (count first more : ℕ) (part : Part) → IsAmong part (unbegun count first more) → (part.events ≡ []) × (first ≤ part.number) × (part.number < first + more) × (part.count ≡ count)
@@ -82,21 +82,15 @@ module _ (opened : Journal) (ports id : ℕ) (p : Part) (ps : List Part) (others
   split_new : (q : Part) → IsAmong q ps → Kept split_owner (length s.views) q
   split_new q among =
       let old = kept.parts_are id whole q at (inr among) in
-      let more : ℕ = if kept.owner q.number == id then length s.views else kept.owner q.number in
-      let other : split_owner q.number ≡ more = if_false (q.number == p.number) id more (ne_eqb q.number p.number (others q among)) in
-      let mine : more ≡ length s.views = if_true (kept.owner q.number == id) (length s.views) (kept.owner q.number) (eq-eqb (kept.owner q.number) id old.1) in
-      (old.0, other ∙ mine, old.2, old.3)
+      (old.0, rw (ne_eqb q.number p.number (others q among), eq-eqb (kept.owner q.number) id old.1) refl, old.2, old.3)
 
   split_else : (seat : ℕ) (v : View) (q : Part) → seat ≢ id → get_elem? s.views seat ≡ some v → IsAmong q v.parts → Kept split_owner seat q
   split_else seat v q away there among =
       let old = kept.parts_are seat v q there among in
       let first = kept.parts_are id whole p at (inl refl) in
-      let more : ℕ = if kept.owner q.number == id then length s.views else kept.owner q.number in
       let apart : q.number ≢ p.number = (λ e. away (sym old.1 ∙ (ap kept.owner e ∙ first.1))) in
-      let other : split_owner q.number ≡ more = if_false (q.number == p.number) id more (ne_eqb q.number p.number apart) in
       let gone : kept.owner q.number ≢ id = (λ e. away (sym old.1 ∙ e)) in
-      let mine : more ≡ kept.owner q.number = if_false (kept.owner q.number == id) (length s.views) (kept.owner q.number) (ne_eqb (kept.owner q.number) id gone) in
-      (old.0, other ∙ (mine ∙ old.1), old.2, old.3)
+      (old.0, rw (ne_eqb q.number p.number apart, ne_eqb (kept.owner q.number) id gone) old.1, old.2, old.3)
 
   split_parts : (seat : ℕ) (v : View) (q : Part) → get_elem? split.views seat ≡ some v → IsAmong q v.parts → Kept split_owner seat q
   split_parts seat v q there among =
@@ -134,21 +128,7 @@ module _ (opened : Journal) (ports id : ℕ) (p : Part) (ps : List Part) (others
       kept.stands
 
   pub split_keeps : JournalRule opened ports split
-  split_keeps = record {
-    history = kept.history;
-    legal = kept.legal;
-    owner = split_owner;
-    parts_are = split_parts;
-    no_others = kept.no_others;
-    served = kept.served;
-    queue = kept.queue;
-    words_are = kept.words_are;
-    once = kept.once;
-    few = kept.few;
-    bound = kept.bound;
-    turns_are = split_turns;
-    stands = split_stands;
-  }
+  split_keeps = with_views opened ports s split kept split_owner refl split_parts split_turns split_stands
 
 pub split_allowed : (opened : Journal) (ports id : ℕ) (v : View) (p : Part) (ps : List Part) → v ≡ record { parts = p ∷ ps; turn = Idle } → ((q : Part) → IsAmong q ps → q.number ≢ p.number)
     → Splits (JournalRule opened ports) id v (first_of v) (others_of v)
@@ -230,21 +210,7 @@ module _ (opened : Journal) (ports id : ℕ) (vs : List Part) (other : ℕ) (ws 
       kept.stands
 
   pub join_keeps : JournalRule opened ports after
-  join_keeps = record {
-    history = kept.history;
-    legal = kept.legal;
-    owner = join_owner;
-    parts_are = join_parts;
-    no_others = kept.no_others;
-    served = kept.served;
-    queue = kept.queue;
-    words_are = kept.words_are;
-    once = kept.once;
-    few = kept.few;
-    bound = kept.bound;
-    turns_are = join_turns;
-    stands = join_stands;
-  }
+  join_keeps = with_views opened ports s after kept join_owner refl join_parts join_turns join_stands
 
 pub join_allowed : (opened : Journal) (ports id : ℕ) (v : View) (other : ℕ) (w : View) → v.turn ≡ Idle → w.turn ≡ Idle → Joins (JournalRule opened ports) id v other w (joined v w) spent_view
 join_allowed opened ports id v other w mine theirs s kept at away there =

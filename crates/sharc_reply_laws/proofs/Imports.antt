@@ -1,7 +1,7 @@
 -- What the proofs cite of std, of other crates and of this crate's definitions, passed on from one place.
-pub use Rattle.std.proofs.{Common.{Bool, Contains, List, None, Option, Some, [], ap, arith, cond, eq-eqb, eqb-true, false, filter, if◌then◌else◌, inl, inr, is_some, length, ltb-false, map, min, nat_lt, negsuc, not, pos, refl, reverse, subst, suc, sym, true, zero, ℕ, ℤ, ⊎_elim, ◌%◌, ◌&&◌, ◌*◌, ◌++◌, ◌+◌, ◌<◌, ◌^◌, ◌||◌, ◌∙◌, ◌∷◌, ◌≡◌, ◌≢◌, ◌≤◌, ◌⊎◌}, lemmas.Bool.{and_cases, cases_eq, cases_order, false≢true, or_parts, or_right}, lemmas.Bool.Decides.nat_tests, lemmas.List.{append-nil, get_or-set_other, length-map, length_push, map-append, map_push, reverse-append}, lemmas.List.Elements.{All-contains, All-head, All-nil, All-push, All-tail, All-weaker, filter-append, filter_agree, filter_map-append}, lemmas.List.FromFn.get_or-map-range_with_len}
+pub use Rattle.std.proofs.{Common.{Bool, Contains, List, None, Option, Some, [], ap, arith, cond, eq-eqb, eqb-true, false, filter, if◌then◌else◌, inl, inr, is_some, length, ltb-false, map, nat_lt, not, pos, refl, reverse, subst, suc, sym, true, zero, ℕ, ℤ, ⊎_elim, ◌%◌, ◌&&◌, ◌*◌, ◌++◌, ◌+◌, ◌<◌, ◌^◌, ◌||◌, ◌∙◌, ◌∷◌, ◌≡◌, ◌≢◌, ◌≤◌, ◌⊎◌}, lemmas.Bool.{and_cases, cases_eq, cases_order, false≢true, or_parts, or_right}, lemmas.Bool.Decides.nat_tests, lemmas.List.{append-nil, get_or-set_other, length-map, length_push, map-append, map_push, reverse-append}, lemmas.List.Elements.{All-contains, All-head, All-nil, All-push, All-tail, All-weaker, filter-append, filter_agree, filter_map-append}, lemmas.List.FromFn.get_or-map-range_with_len}
 pub use Rattle.std.specs.{Io.KnownBytes.Appends, List.{AllByRecursion, cons_option, range_with_len}, List.Sorted.{IsSortedByKey, ties}, Ordering.{is_lt, nat_cmp}, Prelude.{All, Err, Ok, Result, flat_map, nat_eq, nat_le, slice_index, slice_index_or as get_or, ◌==◌}}
-pub use Rattle.sharc_lemmas.proofs.{Bools.{and_left as left, and_right as right, or_split}, Lists.{flat_same, range_more, reverse_cons, set_here, set_same}, Numbers.{eq_refl, lt_true as below, ne_eq, not_long, other_is, same_is, same_test}, Options.{no_guard as no_site, some_is as site_eq}}
+pub use Rattle.sharc_lemmas.proofs.{Bools.{and_left as left, and_right as right, or_split, yes}, Lists.{flat_same, range_more, reverse_cons, set_here, set_same}, Numbers.{eq_refl, lt_true as below, ne_eq, not_long, other_is, same_is, same_test}, Options.{no_guard as no_site, some_is as site_eq}}
 pub use Rattle.sharc_cli.specs.{Bounds.AreWithin, Commands.commands, declared.command.Command.Command, declared.command.Command.TheVariants.{Audit, Check, Explain, Record, Replay}}
 pub use Rattle.sharc_load.specs.Source.{source_of}
 pub use Rattle.sharc_tree.specs.{Low.IsLow, Tree.{Function, Program}, declared.event.Act.Act, declared.event.Act.TheVariants.Started, declared.event.CellAt.CellAt, declared.event.SourceEvent.SourceEvent, declared.token.FaultAt.FaultAt, declared.token.Site.Site, declared.token.Tokens.Tokens, declared.trap.Trap.Trap}
@@ -19,9 +19,8 @@ pub use Rattle.sharc_suggest_laws.specs.Repaired.{LeastIsRepaired}
 pub use Rattle.sharc_meaning.specs.{Events.{Access, Stands, access_by, events_of, is_of}, Obeys.History, Reference.number_of, References.Begun, Runs.IsNamedAt, State.{Outcome, event_of, wants}}
 pub use Rattle.sharc_audit.specs.{Audited.{Audits, OneVerdict}, FileLaws.FileLaws, Grammar.{HasMany, IsFirstBad, text_lines}, Texts.{bad_line, verdict_line}, declared.audit.Verdict.Verdict, declared.line.EventLine.EventLine}
 pub use Rattle.sharc_word.specs.{Words.{word_after, words_after_step}, declared.step.TheConstants.THREADS, declared.step.WordEvent.WordEvent, declared.step.WordOp.WordOp, declared.step.WordStep.WordStep}
-pub use Rattle.sharc_heap.specs.{Accesses.{note_of, site_at}, Asks.word_number, Functions.{conflicts_in, noted}, ShadowWord.epoch_of, Stages.turn_of_stage, State.{NewView, told, turn_of}, declared.arguments.NewArguments.NewArguments, declared.shadow_word.Kind.Kind, declared.shadow_word.Kind.TheVariants.{Read, Write}, declared.stage.NewStage.NewStage, declared.stage.NewTurn.NewTurn, declared.stage.NewTurn.TheVariants.{Do, HeapFull, Made}}
-pub use Rattle.sharc_locks.specs.Waiters.{waits_in}
-pub use Rattle.sharc_code.specs.{Arithmetic.{computed, holds, is_zero, negated}, Laws.RunLaws, Layout.{Fits, cell_of, cell_word, count_word, first_cell, first_shadow, granule_at, granule_of, prints_word, shadow_word, state_word, words_of}, Machine.{Asks, Local, Machine, Own, accessed, act, after_new, asks_new, asserts, at_stage, called, checked, clear, data_granules, elements_of, emptied, empties, entered, exit, fields, free, free_looks, function_of, goes, goes_to, handed, has_room, holds_none, indexed, instr_at, int, is_held, is_of_null, is_positive, join, joined, largest, layout_at, lock_checked, locked, looks, lower, move_ref, new, new_state, numbered, place, raise, ref, returned, set_ref, signal, spawn, start, step_of, stopped, test, tested, trapped, wakes, with_note, with_own, with_parameter, with_result, withdraws, woken, word, wrote}, Opening.{first_global, opening_cell, opening_words, opens_with}, Path.{after, asked_by, begun, counted, may_go, turn}, Ranges.NumbersFit, Runs.{Answered, Global, IsRun, Said, Turn, is_started, opening_of, put, result_of, said_by, told_by, turns_of, with_told, words_now}, Says.{cell_at, elements_in, in_exit, in_free, in_new, in_signal, in_spawn, in_start, made_cell, mode_of, new_event, nobody, place_at, said, speaks_of, take_local}, Stages.IsStageOf, StandingLaws.StandingLaws, Waits.waits_now, Whole.{CheckedRun, Erase, IsStuck, bounds, one_thread, place_after}, declared.code.Code.Code, declared.code.Layout.Layout, declared.code.Parameter.Parameter, declared.code.PlaceMode.PlaceMode, declared.code.PlaceMode.TheVariants.Dynamic, declared.instr.Cell.Cell, declared.instr.Cell.TheVariants.GlobalAt, declared.instr.Instr.Instr, declared.instr.Instr.TheVariants.{Bounds, Call, ChkHeld, ChkLock, ChkLockLoaded, ChkNotHeld, ChkNull, ChkPositive, ChkRead, ChkRoom, ChkWidth, ChkWrite, Clear, ComputeInt, ComputeLong, CondBroadcast, CondEnter, CondSignal, CondWait, Exchange, Exit, Free, Give, GlobalBounds, Join, JumpIfNull, JumpIfZero, Load, LoadRef, Lock, Lower, Move, NegateInt, NegateLong, New, Print, Raise, RaiseLoaded, Return, Spawn, Start, Store, TakeCell, TakeLocal, TestSole, Unlock}, declared.instr.Register.Register, declared.instr.Width.TheVariants.{Int, Long}, declared.shape.Shape.Shape, declared.state.ConflictAt.ConflictAt, declared.state.Print.{Print as PrintAt}, declared.state.Stage.Stage, declared.state.Stage.TheVariants.{Begins, Clears, Empties, Enters, FreeClears, FreeLooks, Hands, Leaves, Links, Looks, Lowers, Makes, Names, Rests, Uncounts, Wakes, Withdraws, WithdrawsFrom}, declared.state.Stop.Stop, declared.state.Stop.TheVariants.{Conflict, NoLock, NotSole}, declared.state.TurnState.TurnState, declared.state.TurnState.TheVariants.Stopped}
+pub use Rattle.sharc_heap.specs.{Functions.conflicts_in, ShadowWord.epoch_of, declared.shadow_word.Kind.Kind, declared.shadow_word.Kind.TheVariants.{Read, Write}}
+pub use Rattle.sharc_code.specs.{Aims.{Aim, BuildsIn, TurnAim}, Laws.RunLaws, Layout.{Fits, count_word, granule_at, granule_of, prints_word, words_of}, Machine.{Asks, Local, Machine, Own, act, goes, instr_at, int, place, ref, step_of, stopped, tested, with_note, with_own, word, wrote}, Opening.{first_global, opening_cell, opening_words, opens_with}, Outcomes.{ComesOut, MayComeOut, TurnOutcome, own_after, state_after}, Path.{after, asked_by, begun, counted, may_go, turn}, Ranges.NumbersFit, Runs.{Answered, Global, IsRun, Said, Turn, is_started, opening_of, put, result_of, said_by, told_by, turns_of, with_told, words_now}, Says.{IsSaidBy, TurnsTell, cell_at, elements_in, made_cell, mode_of, place_at, said, speaks_of, tells}, Stages.IsStageOf, StandingLaws.StandingLaws, ThreadLaws.ThreadLaws, Waits.waits_now, Whole.{CheckedRun, Erase, IsStuck, bounds, one_thread, place_after}, declared.code.Code.Code, declared.code.PlaceMode.PlaceMode, declared.code.PlaceMode.TheVariants.Dynamic, declared.instr.Cell.Cell, declared.instr.Cell.TheVariants.GlobalAt, declared.instr.Instr.Instr, declared.shape.Shape.Shape, declared.state.ConflictAt.ConflictAt, declared.state.Print.{Print as PrintAt}, declared.state.Stage.Stage, declared.state.Stage.TheVariants.{Begins, Hands, Looks, Makes, Names}, declared.state.Stop.Stop, declared.state.Stop.TheVariants.{Conflict, NoLock, NotSole}, declared.state.TurnState.TurnState, declared.state.TurnState.TheVariants.Stopped}
 pub use Rattle.sharc_cpu.specs.Thread.{ThreadView}
 pub use Rattle.sharc_threads.specs.Ends.{AreStarted, IsAt, Standing, is_enabled}
 pub use Rattle.sharc_seq.specs.{Choice.seeded, Laws.EnabledLaws, Run.{AreChosen, IsChosen, enabled}}

@@ -3,7 +3,6 @@ pub mod Lists
 pub mod Logged
 pub mod PrintOrder
 pub mod Owned
-pub mod Keeps
 pub mod Sorts
 pub mod Stopping
 pub mod Testing

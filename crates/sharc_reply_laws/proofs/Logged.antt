@@ -1,5 +1,5 @@
 -- The prints of a run, one after the other: what each thread has of them, where they are, and which events of the source they are.
-use Rattle.sharc_reply_laws.proofs.{Imports.{◌≡◌, ℕ, ℤ, zero, suc, ◌+◌, ◌%◌, ◌^◌, ◌<◌, ◌≤◌, ◌⊎◌, ⊎_elim, Bool, true, false, ◌||◌, ◌&&◌, ◌*◌, cond, List, [], ◌∷◌, ◌++◌, length, map, filter, reverse, Option, Some, None, refl, sym, ap, ◌∙◌, subst, arith, cases_eq, or_right, nat_tests, append-nil, get_or-set_other, length_push, map_push, reverse-append, All-nil, All-push, All-weaker, filter-append, filter_map-append, get_or-map-range_with_len, nat_eq, nat_lt, nat_le, ◌==◌, slice_index, All, cons_option, range_with_len, SourceEvent, THREADS, WordStep, WordEvent, word_after, words_after_step, WordOp, Code, Instr, Print, Shape, PrintAt, prints_word, words_of, RunLaws, Machine, instr_at, step_of as step_at, act, int, opening_words, opens_with, opening_cell, first_global, turn, after, asked_by, counted, Answered, Global, IsRun, Said, Turn, is_started, opening_of, put, result_of, told_by, with_told, words_now, elements_in, said, speaks_of, StandingLaws, Erase, bounds, one_thread, place_after, events_in, printed_by, printed_in, same_is, other_is, or_split, set_here, set_same, range_more}, Sorts.{Elsewhere, IsQuiet, LeavesIt, Prints, Quiet, Sort, print_of, printed_of, sorted}, Stopping.{put_other, put_same}}
+use Rattle.sharc_reply_laws.proofs.{Imports.{◌≡◌, ℕ, ℤ, zero, suc, ◌+◌, ◌%◌, ◌^◌, ◌<◌, ◌≤◌, ◌⊎◌, ⊎_elim, Bool, true, false, ◌||◌, ◌&&◌, ◌*◌, cond, List, [], ◌∷◌, ◌++◌, length, map, filter, reverse, Option, Some, None, refl, sym, ap, ◌∙◌, subst, arith, cases_eq, or_right, nat_tests, append-nil, get_or-set_other, length_push, map_push, reverse-append, All-nil, All-push, All-weaker, filter-append, filter_map-append, get_or-map-range_with_len, nat_eq, nat_lt, nat_le, ◌==◌, slice_index, All, cons_option, range_with_len, SourceEvent, THREADS, WordStep, WordEvent, word_after, words_after_step, WordOp, Code, Instr, Shape, PrintAt, prints_word, words_of, RunLaws, Machine, instr_at, step_of as step_at, act, int, opening_words, opens_with, opening_cell, first_global, turn, after, asked_by, counted, Answered, Global, IsRun, Said, Turn, is_started, opening_of, put, result_of, told_by, with_told, words_now, elements_in, said, speaks_of, StandingLaws, Erase, bounds, one_thread, place_after, events_in, printed_by, printed_in, same_is, other_is, or_split, set_here, set_same, range_more}, Sorts.{Elsewhere, IsQuiet, LeavesIt, Prints, Quiet, Sort, print_of, printed_of, sorted}, Stopping.{put_other, put_same}}
 use Rattle.sharc_code.specs.Runs.{step_of}
 
 -- ---- what is printed, one after the other
@@ -156,12 +156,12 @@ module _ (code : Code) (s : Shape) (g : Global Machine) (k : ℕ) (event : Optio
   }
 
   -- a Print
-  print_turn : (r site : ℕ) → step_of event ≡ asked_by (act code s (Print r site) m)
-      → Still (after (act code s (Print r site) m) found) (log ++ record { thread = k; print = record { place = found; value = int m r } } ∷ []) (values ++ int m r ∷ [])
+  print_turn : (r site : ℕ) → step_of event ≡ asked_by (act code s (Instr.Print r site) m)
+      → Still (after (act code s (Instr.Print r site) m) found) (log ++ record { thread = k; print = record { place = found; value = int m r } } ∷ []) (values ++ int m r ∷ [])
   print_turn r site asks =
       let one : Logged = record { thread = k; print = record { place = found; value = int m r } } in
       let step = step_at prints_word (WordOp.Add 1) in
-      let x = after (act code s (Print r site) m) found in
+      let x = after (act code s (Instr.Print r site) m) found in
       let found_at : found ≡ slice_index g.words prints_word = found_is g.words event step asks answered in
       let at : found ≡ length log = found_at ∙ h.word in
       let new : slice_index words prints_word ≡ (slice_index g.words prints_word + 1) % 2 ^ 64 = after_set g.words event step asks answered in
@@ -260,4 +260,4 @@ module _ (laws : RunLaws) (standing : StandingLaws) (code : Code) (s : Shape) wh
       (put g.made k (g.made k + counted (after (turn code s (g.threads k)) (result_of one.event)).at.state)) (logged code s (one ∷ earlier)) v)
       (sym (told_more k told (Erase code s earlier)))
       (still code s g k one.event (logged code s earlier) (printed_in (events_in code s earlier)) (holds earlier run.0) may.started may.answered (laws.few bounds code s (from code s) earlier (λ u. omega arith) run.0) elements
-      i (sorted code s (g.threads k) i (standing.stages code s earlier k)) may.next.asks)
+      i (sorted code s (g.threads k) laws.turns i (standing.stages code s earlier k)) may.next.asks)

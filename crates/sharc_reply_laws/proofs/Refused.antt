@@ -1,5 +1,5 @@
 -- By the events of the whole run the source wants the access of a check that was refused: its thread stands there to the end.
-use Rattle.sharc_reply_laws.proofs.{Imports.{◌≡◌, ℕ, ◌+◌, ◌⊎◌, inl, inr, Bool, true, false, List, ◌∷◌, Some, refl, sym, ap, ◌∙◌, subst, false≢true, CellAt, Kind, Assignment, Access, access_by, Code, PlaceMode, Cell, GlobalAt, Instr, ChkRead, ChkWrite, Exchange, Load, LoadRef, Start, Store, TakeCell, Shape, ConflictAt, Stopped, Stop, Conflict, Machine, instr_at, stopped, may_go, Turn, cell_at, mode_of, place_at, CheckedRun, place_after, CheckOf, touch_of, ShowsCause, site_of_check, ChecksAreFollowed, access_of, access_to, history_of, IsNotThere, IsPlaced, ChecksStay, is_access_check, WantsRefusedAccess, access_refused, no_site}, Wanting.{act_eq, by_check}}
+use Rattle.sharc_reply_laws.proofs.{Imports.{◌≡◌, ℕ, ◌+◌, ◌⊎◌, inl, inr, Bool, true, false, List, ◌∷◌, Some, refl, sym, ap, ◌∙◌, subst, false≢true, CellAt, Kind, Assignment, Access, access_by, Code, PlaceMode, Cell, GlobalAt, Instr, Shape, ConflictAt, Stopped, Stop, Conflict, Machine, instr_at, stopped, may_go, Turn, cell_at, mode_of, place_at, CheckedRun, place_after, CheckOf, touch_of, ShowsCause, site_of_check, ChecksAreFollowed, access_of, access_to, history_of, IsNotThere, IsPlaced, ChecksStay, is_access_check, WantsRefusedAccess, access_refused, no_site}, Wanting.{act_eq, by_check}}
 
 -- ---- a thread that is stopped would make the access that it would have made
 module _ (code : Code) (m : Machine) (stop : Stop) where
@@ -20,28 +20,28 @@ module _ (code : Code) (m : Machine) (stop : Stop) where
       ∙ ap (with_mode write site) (cell_same c)
 
   pub access_same : (i : Instr) → access_of code (stopped m stop) i ≡ access_of code m i
-  access_same (Load r c site) = ap Some (to_same c site false)
-  access_same (Store r c site) = ap Some (to_same c site true)
-  access_same (LoadRef c site) = ap Some (to_same c site false)
-  access_same (Exchange r c site) = ap Some (to_same c site true)
-  access_same (TakeCell r c site) = ap Some (to_same c site true)
+  access_same (Instr.Load r c site) = ap Some (to_same c site false)
+  access_same (Instr.Store r c site) = ap Some (to_same c site true)
+  access_same (Instr.LoadRef c site) = ap Some (to_same c site false)
+  access_same (Instr.Exchange r c site) = ap Some (to_same c site true)
+  access_same (Instr.TakeCell r c site) = ap Some (to_same c site true)
   access_same _ = refl
 
 -- ---- a refused check
 check_has_site : (i : Instr) (site : ℕ) → site_of_check i ≡ Some site → is_access_check i ≡ true
-check_has_site (ChkRead c at) site e = refl
-check_has_site (ChkWrite c at) site e = refl
+check_has_site (Instr.ChkRead c at) site e = refl
+check_has_site (Instr.ChkWrite c at) site e = refl
 check_has_site _ site e = absurd (no_site site e)
 
 did_not_pass : (a b : Kind) (p q : ℕ) (passed other : Bool) → CheckOf a p passed ≡ CheckOf b q other → passed ≡ other
 did_not_pass a b p q passed other e = cc
 
 refused_stops : (s : Shape) (i : Instr) (m after : Machine) (found : ℕ) (kind : Kind) (granule : ℕ) → touch_of s i m found after ≡ CheckOf kind granule false → is_access_check i ≡ true → may_go after.at.state ≡ false
-refused_stops s (ChkRead c at) m after found kind granule e is = did_not_pass _ kind _ granule _ false e
-refused_stops s (ChkWrite c at) m after found kind granule e is = did_not_pass _ kind _ granule _ false e
+refused_stops s (Instr.ChkRead c at) m after found kind granule e is = did_not_pass _ kind _ granule _ false e
+refused_stops s (Instr.ChkWrite c at) m after found kind granule e is = did_not_pass _ kind _ granule _ false e
 refused_stops s _ m after found kind granule e is = absurd (false≢true is)
 
-module _ (stay : ChecksStay) (m : Assignment) (code : Code) (starts : instr_at code 0 ≡ Start 0) (followed : ChecksAreFollowed code) (s : Shape) (run : List Turn) (checked : CheckedRun code s run)
+module _ (stay : ChecksStay) (m : Assignment) (code : Code) (starts : instr_at code 0 ≡ Instr.Start 0) (followed : ChecksAreFollowed code) (s : Shape) (run : List Turn) (checked : CheckedRun code s run)
     (t : ℕ) (c : ConflictAt) (j : ℕ) (kind : Kind) (site : ℕ) (shown : ShowsCause code s run t c j kind site)
     (placed : IsNotThere (history_of code s run) t ((place_after code s run).threads t) ⊎ IsPlaced m code (history_of code s run) t ((place_after code s run).threads t)) where
   abbrev at : Machine

@@ -1,5 +1,5 @@
 -- A thread that was refused at the check of an access, or at a test of a sole reference, stands there to the end of the run.
-use Rattle.sharc_reply_laws.proofs.{Imports.{◌≡◌, ℕ, ◌==◌, Bool, true, false, List, [], ◌∷◌, ◌++◌, Option, Some, None, if◌then◌else◌, refl, sym, ap, ◌∙◌, ⊎_elim, eqb-true, cases_eq, false≢true, slice_index, WordEvent, WordStep, WordOp, Read, Write, conflicts_in, epoch_of, Code, Instr, ChkRead, ChkWrite, TestSole, Shape, Stopped, Stop, NotSole, count_word, granule_at, granule_of, Machine, Own, act, goes, instr_at, place, ref, stopped, tested, with_note, with_own, wrote, opening_words, after, asked_by, may_go, turn, Answered, Global, IsRun, Turn, opening_of, result_of, bounds, one_thread, place_after, count_found, is_access_check, tester}, Stopping.{put_other, put_same}}
+use Rattle.sharc_reply_laws.proofs.{Imports.{◌≡◌, ℕ, ◌==◌, Bool, true, false, List, [], ◌∷◌, ◌++◌, Option, Some, None, if◌then◌else◌, refl, sym, ap, ◌∙◌, ⊎_elim, eqb-true, cases_eq, false≢true, slice_index, WordEvent, WordStep, WordOp, Read, Write, conflicts_in, epoch_of, Code, Instr, Shape, Stopped, Stop, NotSole, count_word, granule_at, granule_of, Machine, Own, act, goes, instr_at, place, ref, stopped, tested, with_note, with_own, wrote, opening_words, after, asked_by, may_go, turn, Answered, Global, IsRun, Turn, opening_of, result_of, bounds, one_thread, place_after, count_found, is_access_check, tester}, Stopping.{put_other, put_same}}
 use Rattle.sharc_code.specs.Runs.{step_of}
 
 -- the result of a step is the word there
@@ -23,10 +23,10 @@ halted m false stop own off = let here : true ≡ false = off in absurd (false�
 
 at_check : (code : Code) (s : Shape) (m : Machine) (i : Instr) (found : ℕ) → is_access_check i ≡ true → may_go (after (act code s i m) found).at.state ≡ false
     → (st : Stop) × (after (act code s i m) found ≡ stopped m st)
-at_check code s m (ChkRead c site) found is off =
+at_check code s m (Instr.ChkRead c site) found is off =
     let granule = granule_at s (granule_of (place m c)) in
     halted m (conflicts_in found m.own.number Read (wrote m granule found)) _ (with_note m.own granule Read (epoch_of found) site) off
-at_check code s m (ChkWrite c site) found is off =
+at_check code s m (Instr.ChkWrite c site) found is off =
     let granule = granule_at s (granule_of (place m c)) in
     halted m (conflicts_in found m.own.number Write (wrote m granule found)) _ (with_note m.own granule Write (epoch_of found) site) off
 at_check code s m _ found is off = absurd (false≢true is)
@@ -69,7 +69,7 @@ module _ (code : Code) (s : Shape) (test : Turn) (earlier : List Turn) where
       let k = at_check code s m (instr_at code m.at.pc) (result_of test.event) is (ap (λ (y : Machine). may_go y.at.state) (sym here) ∙ off) in
       (k.0, stays_by k.0 k.1 later run)
 
-  module _ (register site : ℕ) (is : instr_at code (tester code s test earlier).at.pc ≡ TestSole register site) (other : count_found code s test earlier register ≡ 1 → ⊥) where
+  module _ (register site : ℕ) (is : instr_at code (tester code s test earlier).at.pc ≡ Instr.TestSole register site) (other : count_found code s test earlier register ≡ 1 → ⊥) where
     abbrev found : ℕ
     found = slice_index (place_after code s earlier).words (count_word s (ref m register))
 

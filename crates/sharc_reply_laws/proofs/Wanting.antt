@@ -1,10 +1,10 @@
 -- What the source wants where a thread makes a check.
-use Rattle.sharc_reply_laws.proofs.Imports.{◌≡◌, ℕ, ◌+◌, pos, ◌⊎◌, inl, inr, Bool, true, false, List, Some, None, sym, ap, ◌∙◌, subst, get_or as slice_index_or, Act, CellAt, SourceEvent, Site, Trap, Assignment, Access, access_by, History, Outcome, event_of, wants, Code, PlaceMode, Dynamic, Cell, Instr, ChkLock, ChkLockLoaded, ChkRead, ChkWrite, Exchange, Exit, Load, LoadRef, Start, Store, TakeCell, Shape, Stopped, NoLock, Machine, instr_at, Turn, cell_at, made_cell, mode_of, place_at, place_after, FlatCode, generated, IsCodeOf, IsUnder, site_of_check, Accesses, IsFollowed, ShowsLock, access_of, access_to, history_of, IsLockCheck, IsNotThere, StopsOrWantsUnder, WantsAct, WantsBy, access_tested, IsPlaced, ThreadWantsAccess, ThreadWantsMutex, site_eq}
+use Rattle.sharc_reply_laws.proofs.Imports.{◌≡◌, ℕ, ◌+◌, pos, ◌⊎◌, inl, inr, Bool, true, false, List, Some, None, sym, ap, ◌∙◌, subst, get_or as slice_index_or, Act, CellAt, SourceEvent, Site, Trap, Assignment, Access, access_by, History, Outcome, event_of, wants, Code, PlaceMode, Dynamic, Cell, Instr, Shape, Stopped, NoLock, Machine, instr_at, Turn, cell_at, made_cell, mode_of, place_at, place_after, FlatCode, generated, IsCodeOf, IsUnder, site_of_check, Accesses, IsFollowed, ShowsLock, access_of, access_to, history_of, IsLockCheck, IsNotThere, StopsOrWantsUnder, WantsAct, WantsBy, access_tested, IsPlaced, ThreadWantsAccess, ThreadWantsMutex, site_eq}
 use Rattle.sharc_meaning.specs.State.{stopped}
 
 -- ---- the first instruction
-pub first_is : (flat : FlatCode) (code : Code) → IsCodeOf flat code → instr_at code 0 ≡ Start 0
-first_is flat code is = ap (λ (is : List Instr). slice_index_or is 0 Exit) is.generated.instrs ∙ ap (λ (statements : List Instr). slice_index_or (generated is.g.functions.items statements) 0 Exit) is.made.statements
+pub first_is : (flat : FlatCode) (code : Code) → IsCodeOf flat code → instr_at code 0 ≡ Instr.Start 0
+first_is flat code is = ap (λ (is : List Instr). slice_index_or is 0 Instr.Exit) is.generated.instrs ∙ ap (λ (statements : List Instr). slice_index_or (generated is.g.functions.items statements) 0 Instr.Exit) is.made.statements
 
 -- ---- the access behind a check
 module _ (code : Code) (m : Machine) where
@@ -21,15 +21,15 @@ module _ (code : Code) (m : Machine) where
 
   -- of a read
   read_is : (c : Cell) (site : ℕ) (i : Instr) → (place_at code site).mode ≡ Dynamic → Accesses false c site i → (a : Access) → access_of code m i ≡ Some a → a ≡ access_tested code m c false
-  read_is c site (Load r d at) dynamic h a e = sym (some_eq (access_to code m d at false) a e) ∙ same_access c d site at false h.0 h.1 dynamic
-  read_is c site (LoadRef d at) dynamic h a e = sym (some_eq (access_to code m d at false) a e) ∙ same_access c d site at false h.0 h.1 dynamic
+  read_is c site (Instr.Load r d at) dynamic h a e = sym (some_eq (access_to code m d at false) a e) ∙ same_access c d site at false h.0 h.1 dynamic
+  read_is c site (Instr.LoadRef d at) dynamic h a e = sym (some_eq (access_to code m d at false) a e) ∙ same_access c d site at false h.0 h.1 dynamic
   read_is c site _ dynamic h a e = absurd h
 
   -- of a write
   write_is : (c : Cell) (site : ℕ) (i : Instr) → (place_at code site).mode ≡ Dynamic → Accesses true c site i → (a : Access) → access_of code m i ≡ Some a → a ≡ access_tested code m c true
-  write_is c site (Store r d at) dynamic h a e = sym (some_eq (access_to code m d at true) a e) ∙ same_access c d site at true h.0 h.1 dynamic
-  write_is c site (Exchange r d at) dynamic h a e = sym (some_eq (access_to code m d at true) a e) ∙ same_access c d site at true h.0 h.1 dynamic
-  write_is c site (TakeCell r d at) dynamic h a e = sym (some_eq (access_to code m d at true) a e) ∙ same_access c d site at true h.0 h.1 dynamic
+  write_is c site (Instr.Store r d at) dynamic h a e = sym (some_eq (access_to code m d at true) a e) ∙ same_access c d site at true h.0 h.1 dynamic
+  write_is c site (Instr.Exchange r d at) dynamic h a e = sym (some_eq (access_to code m d at true) a e) ∙ same_access c d site at true h.0 h.1 dynamic
+  write_is c site (Instr.TakeCell r d at) dynamic h a e = sym (some_eq (access_to code m d at true) a e) ∙ same_access c d site at true h.0 h.1 dynamic
   write_is c site _ dynamic h a e = absurd h
 
   -- the outcome wants an access at a site of the code
@@ -43,11 +43,11 @@ module _ (code : Code) (m : Machine) where
   no_site site e = cc
 
   pub by_check : (o : Outcome) (i next : Instr) (site : ℕ) → site_of_check i ≡ Some site → IsFollowed code i next → WantsBy code m o i → (a : Access) → access_of code m next ≡ Some a → WantsThat o site a
-  by_check o (ChkRead c at) next site is follows w a e = moved o site at a (access_tested code m c false) (site_eq at site is) (read_is c at next follows.0 follows.1 a e) w
-  by_check o (ChkWrite c at) next site is follows w a e = moved o site at a (access_tested code m c true) (site_eq at site is) (write_is c at next follows.0 follows.1 a e) w
+  by_check o (Instr.ChkRead c at) next site is follows w a e = moved o site at a (access_tested code m c false) (site_eq at site is) (read_is c at next follows.0 follows.1 a e) w
+  by_check o (Instr.ChkWrite c at) next site is follows w a e = moved o site at a (access_tested code m c true) (site_eq at site is) (write_is c at next follows.0 follows.1 a e) w
   by_check o _ next site is follows w a e = absurd (no_site site is)
 
-module _ (m : Assignment) (code : Code) (starts : instr_at code 0 ≡ Start 0) (R : History) (thread : ℕ) (at : Machine) (placed : IsNotThere R thread at ⊎ IsPlaced m code R thread at) where
+module _ (m : Assignment) (code : Code) (starts : instr_at code 0 ≡ Instr.Start 0) (R : History) (thread : ℕ) (at : Machine) (placed : IsNotThere R thread at ⊎ IsPlaced m code R thread at) where
   pub wants_access : (site : ℕ) → site_of_check (instr_at code at.at.pc) ≡ Some site → IsFollowed code (instr_at code at.at.pc) (instr_at code (at.at.pc + 1))
       → (a : Access) → access_of code at (instr_at code (at.at.pc + 1)) ≡ Some a → ThreadWantsAccess m code R thread site a
   wants_access site is follows a e = by placed
@@ -74,11 +74,11 @@ module _ (code : Code) (m : Machine) where
   under o site at mutex act wanted (inr w) = subst (IsUnder mutex) (act_eq (place_at code site).site (place_at code at).site w.0 act (sym w.1 ∙ wanted)) w.2
 
   pub by_lock : (o : Outcome) (i : Instr) (site at : ℕ) (mutex : CellAt) (act : Act) → IsLockCheck code m i site mutex → WantsAct code o at act → WantsBy code m o i → IsUnder mutex act
-  by_lock o (ChkLock c k) site at mutex act check wanted w = subst (λ (x : CellAt). IsUnder x act) (sym check.1) (under o k at (cell_at code m c) act wanted w)
-  by_lock o (ChkLockLoaded k) site at mutex act check wanted w = subst (λ (x : CellAt). IsUnder x act) (sym check.1) (under o k at (made_cell m.pending 0) act wanted w)
+  by_lock o (Instr.ChkLock c k) site at mutex act check wanted w = subst (λ (x : CellAt). IsUnder x act) (sym check.1) (under o k at (cell_at code m c) act wanted w)
+  by_lock o (Instr.ChkLockLoaded k) site at mutex act check wanted w = subst (λ (x : CellAt). IsUnder x act) (sym check.1) (under o k at (made_cell m.pending 0) act wanted w)
   by_lock o _ site at mutex act check wanted w = absurd check
 
-module _ (m : Assignment) (code : Code) (starts : instr_at code 0 ≡ Start 0) (s : Shape) (run : List Turn) (t site word : ℕ)
+module _ (m : Assignment) (code : Code) (starts : instr_at code 0 ≡ Instr.Start 0) (s : Shape) (run : List Turn) (t site word : ℕ)
     (placed : IsNotThere (history_of code s run) t ((place_after code s run).threads t) ⊎ IsPlaced m code (history_of code s run) t ((place_after code s run).threads t))
     (stopped_is : ((place_after code s run).threads t).at.state ≡ Stopped) (is : ((place_after code s run).threads t).own.stop ≡ Some (NoLock site word))
     (shows : ShowsLock code (history_of code s run) t ((place_after code s run).threads t) site) where

@@ -3,12 +3,13 @@
 ghost use Rattle.sharc_reply_laws.specs.{Own.TurnsTellOwn, Prints.{PrintsAreTold, TextsBeginWithPrints}};
 ghost use Rattle.sharc_reply_laws.specs.{Stopped.StopsAreStopped, Tested.{ChecksStay, TestsStay}};
 
-use sharc_code::{run_laws, standing_laws};
+use sharc_code::{run_laws, standing_laws, thread_laws};
 
 /// Each source event that a turn of a run tells is of the thread of that turn.
 pub fn turns_tell_own()
     ensures { TurnsTellOwn }
 {
+    thread_laws();
     standing_laws();
 }
 

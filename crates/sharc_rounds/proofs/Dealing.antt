@@ -1,9 +1,9 @@
 -- The hands of all workers, when one is put in its place or taken from there.
-use Rattle.std.proofs.{Common.{◌≡◌, ℕ, suc, ◌+◌, ◌<◌, ◌≤◌, List, ◌∷◌, length, get_or, set, Option, Some, None, refl, sym, ap, ◌∙◌, subst, arith, ⊎_elim}, lemmas.Bool.cases_eq, lemmas.List.{get_or-set_same, get_or-set_other, length-set}}
+use Rattle.std.proofs.{Common.{◌≡◌, ℕ, suc, ◌+◌, ◌%◌, ◌<◌, ◌≤◌, List, ◌∷◌, length, get_or, set, Option, Some, None, refl, sym, ap, ◌∙◌, subst, arith, ⊎_elim}, lemmas.Bool.cases_eq, lemmas.List.{get_or-set_same, get_or-set_other, length-set}}
 use Rattle.sharc_rounds.specs.{declared.hand.Hand.Hand, declared.worker.Worker.Worker, Round.{MayRun, HasRun, MayRunAt, HasRunAt, hand_at}}
 use Rattle.sharc_code.specs.{declared.code.Code.Code, declared.shape.Shape.Shape}
 use Rattle.sharc_bus.specs.Bus.{BusView}
-use Rattle.sharc_lemmas.proofs.Lists.{any_default}
+use Rattle.sharc_lemmas.proofs.Lists.{any_default, some_within}
 
 module _ (workers : List Worker) (w : ℕ) (old new : Worker) (n : ℕ) (x : Option Hand)
     (low : w < length workers) (is : old ≡ get_or workers w old) (put : new.hands.items ≡ set old.hands.items n x) where
@@ -31,6 +31,12 @@ module _ (workers : List Worker) (w : ℕ) (old new : Worker) (n : ℕ) (x : Opt
       (λ (e : v ≡ w). subst (λ j. length (get_or (set workers w new) j d).hands.items ≡ k) (sym e) (ap (λ (y : Worker). length y.hands.items) (get_or-set_same workers w new d low) ∙ same ∙ one))
       (λ (f : v ≡ w → ⊥). ap (λ (y : Worker). length y.hands.items) (get_or-set_other workers w v new d f) ∙ other)
       (cases_eq v w)
+
+-- a hand that is there, in the worker that an index found
+pub hand_there : (ws : List Worker) (n count many : ℕ) (d : Worker) (hand : Hand) → count ≡ many → d ≡ get_or ws (n % count) d → hand_at ws (n % many) n d ≡ Some hand → (get_or d.hands.items n None ≡ Some hand) × (n < length d.hands.items)
+hand_there ws n count many d hand same value is =
+    let here : get_or d.hands.items n None ≡ Some hand = ap (λ (x : Worker). get_or x.hands.items n None) (value ∙ ap (λ k. get_or ws (n % k) d) same) ∙ is in
+    (here, some_within d.hands.items n hand here)
 
 -- ---- one worker's hands, one after the other
 module _ (P : Option Hand → Option Hand → Type 0) (first now next : List (Option Hand)) (n : ℕ) (x : Option Hand)

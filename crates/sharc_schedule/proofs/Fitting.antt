@@ -1,5 +1,5 @@
 -- Places are below 31, and there are no more turns than all threads may make events.
-use Rattle.sharc_schedule.proofs.{Imports.{◌≡◌, ℕ, zero, suc, ◌+◌, ◌*◌, ◌<◌, ◌≤◌, Bool, true, false, nat_eq, List, [], ◌∷◌, ◌++◌, length, refl, sym, ap, subst, arith, if◌then◌else◌, length-range_with_len, range_with_len, dec_le, ℕ_discrete, dite, THREADS, Code, Shape, RunLaws, ThreadLaws, Turn, put, state_now, made_now, CheckedRun, one_thread, place_after, is_enabled, enabled, arranged, without_tries, scheduled_turns, place_in, places_of, counted_in, counted_together, schedule_of, ScheduledRuns, SchedulesFit, ArePlaces}, Trying.{NoTries, put_own, put_other}, Arranging.arrange, Among.{Among, place_within, among_filter, among_range}, Replaying.{Run, Few, started_low, few_before, some_counted, enabled_turn, places_length}, Plain.filter_less}
+use Rattle.sharc_schedule.proofs.{Imports.{◌≡◌, ℕ, zero, suc, ◌+◌, ◌*◌, ◌<◌, ◌≤◌, Bool, true, false, nat_eq, List, [], ◌∷◌, ◌++◌, length, refl, sym, ap, subst, arith, if◌then◌else◌, length-range_with_len, range_with_len, ℕ_discrete, dite, THREADS, Code, Shape, RunLaws, ThreadLaws, Turn, put, state_now, made_now, CheckedRun, one_thread, place_after, is_enabled, enabled, arranged, without_tries, scheduled_turns, place_in, places_of, counted_in, counted_together, schedule_of, ScheduledRuns, SchedulesFit, ArePlaces}, Trying.{NoTries, put_own, put_other}, Arranging.arrange, Among.{Among, place_within, among_filter, among_range}, Replaying.{Run, Few, started_low, few_before, some_counted, enabled_turn, places_length}, Plain.filter_less}
 
 -- ---- sums over the first numbers
 abbrev pub sum_to : ℕ → (ℕ → ℕ) → ℕ
@@ -12,16 +12,14 @@ sum_same (suc n) f g same = let a = sum_same n f g (λ k lt. same k (omega arith
 
 sum_put : (n : ℕ) (f : ℕ → ℕ) (t v : ℕ) → t < n → sum_to n (put f t v) + f t ≡ sum_to n f + v
 sum_put zero f t v lt = absurd (omega arith)
-sum_put (suc n) f t v lt = by (ℕ_discrete n t) (λ h. sum_put n f t v h) where
-  by : Dec (n ≡ t) → (t < n → sum_to n (put f t v) + f t ≡ sum_to n f + v) → sum_to (suc n) (put f t v) + f t ≡ sum_to (suc n) f + v
-  by (yes e) r =
-      let a = sum_same n (put f t v) f (λ k low. put_other f t v k (λ h. omega arith)) in
-      let b = put_own f t v n e in
-      let d : f n ≡ f t = ap f e in omega arith
-  by (no apart) r =
-      let low : t < n = dite (dec_le n t) (λ le. absurd (apart (omega arith))) (λ not. omega arith) in
-      let a = r low in
-      let b = put_other f t v n apart in omega arith
+sum_put (suc n) f t v lt = dite (ℕ_discrete n t)
+    (λ e.
+    let a = sum_same n (put f t v) f (λ k low. put_other f t v k (λ h. omega arith)) in
+    let b = put_own f t v n e in
+    let d : f n ≡ f t = ap f e in omega arith)
+    (λ apart.
+    let a = sum_put n f t v (omega (arith, lt, apart)) in
+    let b = put_other f t v n apart in omega arith)
 
 pub sum_bound : (n : ℕ) (f : ℕ → ℕ) (most : ℕ) → ((t : ℕ) → f t ≤ most) → sum_to n f ≤ n * most
 sum_bound zero f most small = omega arith

@@ -1,5 +1,5 @@
 -- The turns for one event of the journal are those of the schedule.
-use Rattle.sharc_schedule.proofs.{Imports.{◌≡◌, ℕ, suc, ◌<◌, ◌≤◌, Bool, true, false, List, [], ◌∷◌, ◌++◌, length, refl, sym, ap, ◌∙◌, subst, arith, append_assoc, ⊎_elim, ◌⊎◌, inl, inr, if◌then◌else◌, dec_le, Code, Shape, TurnState, Runs, Tries, Stopped, Ended, Machine, counted, Turn, Owns, MayTurn, state_now, RunLaws, ThreadLaws, one_thread, bounds, place_after, is_enabled, has_event, is_try, without_tries, SameEnds, Quiet, Loud, AllCount, Stepped, no_both}, Trying.{may_kept, state_same, NoTries, without}, Among.{Last, cut}, Replaying.{Few, few_before, enabled_turn}, Matching.{Run, quiet_kept, as_many}}
+use Rattle.sharc_schedule.proofs.{Imports.{dite, ◌≡◌, ℕ, suc, ◌<◌, ◌≤◌, Bool, true, false, List, [], ◌∷◌, ◌++◌, length, refl, sym, ap, ◌∙◌, subst, arith, append_assoc, ⊎_elim, ◌⊎◌, inl, inr, if◌then◌else◌, dec_le, Code, Shape, TurnState, Tries, Machine, counted, Turn, Owns, MayTurn, state_now, RunLaws, ThreadLaws, one_thread, bounds, place_after, is_enabled, has_event, is_try, without_tries, SameEnds, Quiet, Loud, AllCount, Stepped, no_both}, Trying.{may_kept, state_same, NoTries, without}, Among.{Last, cut}, Replaying.{Few, few_before, enabled_turn}, Matching.{Run, quiet_kept, as_many}}
 
 -- ---- lists
 pub record Split (xs : List Turn) (n : ℕ) : Type 0 where
@@ -10,10 +10,9 @@ pub record Split (xs : List Turn) (n : ℕ) : Type 0 where
 
 pub split : (xs : List Turn) (n : ℕ) → n ≤ length xs → Split xs n
 split [] n le = record { high = []; low = []; is = refl; many = omega (arith, le) }
-split (x ∷ xs) n le = by (dec_le n (length xs)) (λ h. split xs n h) where
-  by : Dec (n ≤ length xs) → (n ≤ length xs → Split xs n) → Split (x ∷ xs) n
-  by (yes h) r = let s = r h in record { high = x ∷ s.high; low = s.low; is = ap (λ (ts : List Turn). x ∷ ts) s.is; many = s.many }
-  by (no h) r = record { high = []; low = x ∷ xs; is = refl; many = omega (arith, le, h) }
+split (x ∷ xs) n le = dite (dec_le n (length xs))
+    (λ h. let s = split xs n h in record { high = x ∷ s.high; low = s.low; is = ap (λ (ts : List Turn). x ∷ ts) s.is; many = s.many })
+    (λ h. record { high = []; low = x ∷ xs; is = refl; many = omega (arith, le, h) })
 
 abbrev pub head_event : List Turn → Bool
 head_event [] = false
@@ -37,10 +36,8 @@ loud_later : (x : Turn) (later low : List Turn) (m : Turn) → Quiet (later ++ m
 loud_later x later low m quiet on = no_both (has_event m.event) on (quiet_low later (m ∷ low) quiet).1
 
 pub no_count : (state : TurnState) → is_try state ≡ true → counted state ≡ 1 → ⊥
-no_count Runs e one = no_both false e refl
 no_count Tries e one = absurd (omega (arith, one))
-no_count Stopped e one = no_both false e refl
-no_count Ended e one = no_both false e refl
+no_count _ e one = absurd cc
 
 module _ (laws : RunLaws) (threads : ThreadLaws) (code : Code) (s : Shape) (limit : ℕ) where
   abbrev pub Runs_to : List Turn → Type 0

@@ -3,7 +3,7 @@ pub use Rattle.std.proofs.{Common.{Bool, List, None, Option, Some, [], ap, appen
 pub use Rattle.std.specs.{Char.digit_value, List.range_with_len, Prelude.{Err, IfOk, Ok, Result, slice_index}, Str.bytes_eq, Str.Parse.{AllDigits, digits_value, digits_value_after}}
 pub use mathlib.Core.Logic.{dite}
 pub use native.Mathlib.Decide.{dec_le, ℕ_discrete}
-pub use Rattle.sharc_lemmas.proofs.{Bools.{and_left, and_right, both, if_false as if_no, if_true as if_yes, not_ended as no_both, or_assoc, or_known}, Lists.{any_default as same_at, filter_agrees, same_bytes as bytes_alike, same_name as bytes_same}, Numbers.lt_true}
+pub use Rattle.sharc_lemmas.proofs.{Bools.{and_left, and_right, both, if_false as if_no, if_true as if_yes, not_ended as no_both, or_assoc, or_known}, Lists.{any_default as same_at, filter_agrees, same_bytes as bytes_alike, same_name as bytes_same}, Numbers.lt_true, Options.{none_some as none_not_some, same_some as some_is}}
 pub use Rattle.sharc_tree.specs.declared.event.SourceEvent.{SourceEvent}
 pub use Rattle.sharc_word.specs.{History.LegalHistory, Words.{words_after, words_after_step}, declared.step.TheConstants.THREADS, declared.step.WordEvent.WordEvent, declared.step.WordStep.WordStep}
 unfoldable pub use Rattle.sharc_locks.specs.Waiters.{waits_in}

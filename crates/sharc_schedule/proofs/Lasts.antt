@@ -1,5 +1,5 @@
 -- A place that comes after others, counted together with them.
-use Rattle.sharc_schedule.proofs.Imports.{◌≡◌, ◌≢◌, ℕ, zero, suc, ◌+◌, ◌<◌, Bool, true, false, nat_eq, List, [], ◌∷◌, ◌++◌, length, get_or, set, replicate, refl, sym, ap, ◌∙◌, arith, append_assoc, eq-eqb, ne_eqb, if◌then◌else◌, ℕ_discrete, counted_in, counted_together, if_no, if_yes}
+use Rattle.sharc_schedule.proofs.Imports.{dite, ◌≡◌, ◌≢◌, ℕ, zero, suc, ◌+◌, ◌<◌, Bool, true, false, nat_eq, List, [], ◌∷◌, ◌++◌, length, get_or, set, replicate, refl, sym, ap, ◌∙◌, arith, append_assoc, eq-eqb, ne_eqb, if◌then◌else◌, ℕ_discrete, counted_in, counted_together, if_no, if_yes}
 
 abbrev pub add_last : ℕ → List (ℕ × ℕ) → List (ℕ × ℕ)
 add_last p [] = (p, 1) ∷ []
@@ -7,29 +7,16 @@ add_last p (x ∷ []) = if nat_eq p x.0 then (x.0, suc x.1) ∷ [] else x ∷ (p
 add_last p (x ∷ y ∷ more) = x ∷ add_last p (y ∷ more)
 
 add_in : (p q : ℕ) (xs : List (ℕ × ℕ)) → counted_in q (add_last p xs) ≡ add_last p (counted_in q xs)
-add_in p q [] = by (ℕ_discrete q p) where
-  by : Dec (q ≡ p) → counted_in q ((p, 1) ∷ []) ≡ add_last p ((q, 1) ∷ [])
-  by (yes e) =
-      if_yes (nat_eq q p) ((p, 2) ∷ []) ((q, 1) ∷ (p, 1) ∷ []) (eq-eqb q p e)
-      ∙ (ap (λ n. (n, 2) ∷ []) (sym e) ∙ sym (if_yes (nat_eq p q) ((q, 2) ∷ []) ((q, 1) ∷ (p, 1) ∷ []) (eq-eqb p q (sym e))))
-  by (no e) =
-      if_no (nat_eq q p) ((p, 2) ∷ []) ((q, 1) ∷ (p, 1) ∷ []) (ne_eqb q p e)
-      ∙ sym (if_no (nat_eq p q) ((q, 2) ∷ []) ((q, 1) ∷ (p, 1) ∷ []) (ne_eqb p q (λ h. e (sym h))))
+add_in p q [] = dite (ℕ_discrete q p)
+    (λ e. rw (eq-eqb q p e, eq-eqb p q (sym e)) (ap (λ n. (n, 2) ∷ []) (sym e)))
+    (λ apart. rw (ne_eqb q p apart, ne_eqb p q (λ h. apart (sym h))) refl)
 add_in p q (x ∷ []) = by (nat_eq p x.0) (nat_eq q x.0) refl refl where
   by : (a b : Bool) → nat_eq p x.0 ≡ a → nat_eq q x.0 ≡ b
       → counted_in q (if a then (x.0, suc x.1) ∷ [] else x ∷ (p, 1) ∷ []) ≡ add_last p (if b then (x.0, suc x.1) ∷ [] else (q, 1) ∷ x ∷ [])
-  by true true ea eb =
-      if_yes (nat_eq q x.0) ((x.0, suc (suc x.1)) ∷ []) ((q, 1) ∷ (x.0, suc x.1) ∷ []) eb
-      ∙ sym (if_yes (nat_eq p x.0) ((x.0, suc (suc x.1)) ∷ []) ((x.0, suc x.1) ∷ (p, 1) ∷ []) ea)
-  by true false ea eb =
-      if_no (nat_eq q x.0) ((x.0, suc (suc x.1)) ∷ []) ((q, 1) ∷ (x.0, suc x.1) ∷ []) eb
-      ∙ sym (ap (λ (ys : List (ℕ × ℕ)). (q, 1) ∷ ys) (if_yes (nat_eq p x.0) ((x.0, suc x.1) ∷ []) (x ∷ (p, 1) ∷ []) ea))
-  by false true ea eb =
-      if_yes (nat_eq q x.0) ((x.0, suc x.1) ∷ (p, 1) ∷ []) ((q, 1) ∷ x ∷ (p, 1) ∷ []) eb
-      ∙ sym (if_no (nat_eq p x.0) ((x.0, suc (suc x.1)) ∷ []) ((x.0, suc x.1) ∷ (p, 1) ∷ []) ea)
-  by false false ea eb =
-      if_no (nat_eq q x.0) ((x.0, suc x.1) ∷ (p, 1) ∷ []) ((q, 1) ∷ x ∷ (p, 1) ∷ []) eb
-      ∙ sym (ap (λ (ys : List (ℕ × ℕ)). (q, 1) ∷ ys) (if_no (nat_eq p x.0) ((x.0, suc x.1) ∷ []) (x ∷ (p, 1) ∷ []) ea))
+  by true true ea eb = rw (eb, ea) refl
+  by true false ea eb = rw (eb, ea) refl
+  by false true ea eb = rw (eb, ea) refl
+  by false false ea eb = rw (eb, ea) refl
 add_in p q (x ∷ y ∷ more) = by (nat_eq q x.0) where
   by : (b : Bool) → (if b then (x.0, suc x.1) ∷ add_last p (y ∷ more) else (q, 1) ∷ x ∷ add_last p (y ∷ more)) ≡ add_last p (if b then (x.0, suc x.1) ∷ y ∷ more else (q, 1) ∷ x ∷ y ∷ more)
   by true = refl
@@ -69,9 +56,7 @@ add_more : (p k : ℕ) (xs : List (ℕ × ℕ)) → add_last p (add_many p k xs)
 add_more p k [] = last_of_one p k
 add_more p k (x ∷ []) = by (nat_eq p x.0) refl where
   by : (b : Bool) → nat_eq p x.0 ≡ b → add_last p (if b then (x.0, x.1 + k) ∷ [] else x ∷ (p, k) ∷ []) ≡ (if b then (x.0, x.1 + suc k) ∷ [] else x ∷ (p, suc k) ∷ [])
-  by true e =
-      if_yes (nat_eq p x.0) ((x.0, suc (x.1 + k)) ∷ []) ((x.0, x.1 + k) ∷ (p, 1) ∷ []) e
-      ∙ ap (λ n. (x.0, n) ∷ []) (let f : suc (x.1 + k) ≡ x.1 + suc k = omega arith in f)
+  by true e = rw e (ap (λ n. (x.0, n) ∷ []) (let f : suc (x.1 + k) ≡ x.1 + suc k = omega arith in f))
   by false e = ap (λ (ys : List (ℕ × ℕ)). x ∷ ys) (last_of_one p k)
 add_more p k (x ∷ y ∷ more) = last_behind p x (add_many p k (y ∷ more)) (some_many p k (y ∷ more)) ∙ ap (λ (ys : List (ℕ × ℕ)). x ∷ ys) (add_more p k (y ∷ more))
 

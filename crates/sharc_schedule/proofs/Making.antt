@@ -1,5 +1,5 @@
 -- The turns that are made for a journal are those of the schedule of each of its runs.
-use Rattle.sharc_schedule.proofs.{Imports.{◌≡◌, ◌≢◌, ℕ, zero, suc, ◌+◌, ◌-◌, ◌<◌, ◌≤◌, Bool, true, false, not, nat_eq, ◌&&◌, ◌||◌, nat_lt, List, [], ◌∷◌, ◌++◌, Option, Some, None, length, get_or, eqb-true, refl, sym, ap, ◌∙◌, subst, arith, append_assoc, length-append, ◌⊎◌, inl, inr, if◌then◌else◌, append-nil, dec_le, ℕ_discrete, WordEvent, THREADS, Code, Shape, RunLaws, Machine, may_go, Turn, Owns, IsOf, is_started, state_now, made_now, words_now, word_events, event_list, ThreadLaws, waits_now, one_thread, bounds, place_after, Standing, is_enabled, has_event, loose, loose_by, firm, firm_by, all_loose, arranged, without_tries, scheduled_turns, SameEnds, IsJournalOf, Quiet, AllCount, Stepped, Followed, thread_at, no_both, or_known}, Arranging.arrange, Following.{Runs_to, Split, split, owns_low, run_low, few_low, enough, follow_event}, Matching.{quiet_kept, as_many}, Among.{Last, cut}, Replaying.{Few, few_before, started_low, enabled_turn}, Showing.enabled_same, Trying.{NoTries, without, put_other, now_started}, Turning.no_tries}
+use Rattle.sharc_schedule.proofs.{Imports.{dite, ◌≡◌, ◌≢◌, ℕ, zero, suc, ◌+◌, ◌-◌, ◌<◌, ◌≤◌, Bool, true, false, not, nat_eq, ◌&&◌, ◌||◌, nat_lt, List, [], ◌∷◌, ◌++◌, Option, Some, None, length, get_or, refl, sym, ap, ◌∙◌, subst, arith, append_assoc, length-append, ◌⊎◌, inl, inr, if◌then◌else◌, append-nil, dec_le, ℕ_discrete, WordEvent, THREADS, Code, Shape, RunLaws, Machine, may_go, Turn, Owns, IsOf, is_started, state_now, made_now, words_now, word_events, event_list, ThreadLaws, waits_now, one_thread, bounds, place_after, Standing, is_enabled, has_event, loose, loose_by, firm, firm_by, all_loose, arranged, without_tries, scheduled_turns, SameEnds, IsJournalOf, Quiet, AllCount, Stepped, Followed, thread_at, no_both, or_known}, Arranged.loose_owned, Arranging.arrange, Following.{Runs_to, Split, split, owns_low, run_low, few_low, enough, follow_event}, Matching.{quiet_kept, as_many}, Among.{Last, cut}, Replaying.{Few, few_before, started_low, enabled_turn}, Showing.enabled_same, Trying.{NoTries, without, put_other, now_started}, Turning.no_tries}
 
 -- ---- loose turns
 pub loose_quiet : (t : ℕ) (turns : List Turn) → Quiet (loose t turns)
@@ -9,20 +9,6 @@ loose_quiet t (turn ∷ earlier) = by (nat_eq t turn.thread) turn.event refl (lo
   by true None e r = (r, ap has_event e)
   by true (Some event) e r = tt
   by false event e r = r
-
-pub loose_owned : (t : ℕ) (turns : List Turn) → Owns t (loose t turns)
-loose_owned t [] = tt
-loose_owned t (turn ∷ earlier) = by (ℕ_discrete t turn.thread) turn.event (loose_owned t earlier) where
-  within : (b : Bool) (event : Option WordEvent) → (b ≡ true → turn.thread ≡ t) → Owns t (loose t earlier) → Owns t (if b then loose_by event turn (loose t earlier) else loose t earlier)
-  within true None same r = (same refl, r)
-  within true (Some event) same r = tt
-  within false event same r = r
-
-  by : Dec (t ≡ turn.thread) → (event : Option WordEvent) → Owns t (loose t earlier) → Owns t (if nat_eq t turn.thread then loose_by event turn (loose t earlier) else loose t earlier)
-  by (yes e) event r = within (nat_eq t turn.thread) event (λ on. sym e) r
-  by (no apart) event r = within (nat_eq t turn.thread) event (λ on. absurd (apart (same on))) r where
-    same : nat_eq t turn.thread ≡ true → t ≡ turn.thread
-    same on = eqb-true t turn.thread on
 
 -- ---- the journal
 -- the event at the end of a list
@@ -275,16 +261,13 @@ module _ (laws : RunLaws) (threads : ThreadLaws) (code : Code) (s : Shape) (limi
         let own : event.thread ≡ one.thread = subst (λ o. IsOf one.thread o) e run.1.next.own in
         let within : i < length (word_events earlier) + 1 = subst (λ n. i < n) (ap (λ (es : List WordEvent). length es) events ∙ length-append (word_events earlier) (event ∷ [])) low in
         let started = started_low laws threads code s limit one.thread earlier run.1.started in
-        subst (λ es. thread_at es i < THREADS) (sym events) (at (ℕ_discrete i (length (word_events earlier))) own started within) where
-          at : Dec (i ≡ length (word_events earlier)) → event.thread ≡ one.thread → one.thread < THREADS → i < length (word_events earlier) + 1 → thread_at (word_events earlier ++ event ∷ []) i < THREADS
-          at (yes here) own started within =
-              let is : thread_at (word_events earlier ++ event ∷ []) i ≡ one.thread = ap (thread_at (word_events earlier ++ event ∷ [])) here ∙ (ap (λ (x : WordEvent). x.thread) (last_event (word_events earlier) event _) ∙ own) in
-              omega (arith, is, started)
-          at (no apart) own started within =
-              let low : i < length (word_events earlier) = omega (arith, within, apart) in
-              let is = before_last (word_events earlier) (event ∷ []) i low in
-              let r = rest low in
-              omega (arith, is, r)
+        subst (λ es. thread_at es i < THREADS) (sym events) (dite (ℕ_discrete i (length (word_events earlier)))
+        (λ here. let is : thread_at (word_events earlier ++ event ∷ []) i ≡ one.thread = ap (thread_at (word_events earlier ++ event ∷ [])) here ∙ (ap (λ (x : WordEvent). x.thread) (last_event (word_events earlier) event _) ∙ own) in
+        omega (arith, is, started))
+        (λ apart. let low : i < length (word_events earlier) = omega (arith, within, apart) in
+        let is = before_last (word_events earlier) (event ∷ []) i low in
+        let r = rest low in
+        omega (arith, is, r)))
 
   pub journal_low : (journal : List WordEvent) (turns : List Turn) → IsJournalOf code s limit journal turns → (i : ℕ) → i < length journal → thread_at journal i < THREADS
   journal_low journal turns is i low =

@@ -8,10 +8,8 @@ unfolding waits_in
 nobody_in_zero number = ap (λ b. b == 1) (bit_at-zero number)
 
 nothing_held : (number : ℕ) (wait : Option Wait) → held_up [] number wait ≡ false
-nothing_held number None = refl
-nothing_held number (Some (Wait.Mutex word site)) = refl
-nothing_held number (Some (Wait.Join n site)) = refl
 nothing_held number (Some (Wait.Cond word site)) = nobody_in_zero number
+nothing_held number _ = refl
 
 -- it leads where it leads whatever it finds
 leads_alike : (a : Step.Turn) (event : Option WordEvent) → step_in event ≡ asked_by a → has_event event ≡ false → after a (result_of event) ≡ after a (found_now [] a)

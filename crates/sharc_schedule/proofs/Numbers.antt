@@ -1,19 +1,5 @@
 -- Numbers and places in lines.
-use Rattle.sharc_schedule.proofs.Imports.{◌≡◌, ◌≢◌, ℕ, ◌<◌, ◌≤◌, ◌^◌, ◌==◌, ◌&&◌, Bool, true, false, nat_le, ◌⊎◌, inl, inr, ⊎_elim, List, [], ◌∷◌, ◌++◌, Option, Some, None, length, decimal, refl, sym, ap, ◌∙◌, subst, arith, eq-eqb, ne_eqb, eqb-true, if◌then◌else◌, decimal_is_IsNumeral, le-leb, leb-true, true_or_false, bytes_eq, digits_value, AllDigits, digit_value, place_line, IsPlace, AreNumbers, Begins, number_in, pair_of, word_of, after_word, place_read, numbers_in, rest_after, and_left, and_right, if_no, if_yes, bytes_same, bytes_alike}
-
-abbrev or_else : {A : Type 0} → A → Option A → A
-or_else a None = a
-or_else a (Some x) = x
-
-abbrev IsNone : {A : Type 0} → Option A → Type 0
-IsNone None = Unit {0}
-IsNone (Some x) = ⊥
-
-pub some_is : {A : Type 0} (a b : A) → Some a ≡ Some b → a ≡ b
-some_is a b e = ap (λ o. or_else a o) e
-
-pub none_not_some : {A : Type 0} (a : A) → None ≡ Some a → ⊥
-none_not_some a e = subst IsNone e tt
+use Rattle.sharc_schedule.proofs.Imports.{some_is, none_not_some, ◌≡◌, ◌≢◌, ℕ, ◌<◌, ◌≤◌, ◌^◌, ◌==◌, ◌&&◌, Bool, true, false, nat_le, ◌⊎◌, inl, inr, ⊎_elim, List, [], ◌∷◌, ◌++◌, Option, Some, None, length, decimal, refl, sym, ap, ◌∙◌, subst, arith, eq-eqb, ne_eqb, eqb-true, if◌then◌else◌, decimal_is_IsNumeral, le-leb, leb-true, true_or_false, bytes_eq, digits_value, AllDigits, digit_value, place_line, IsPlace, AreNumbers, Begins, number_in, pair_of, word_of, after_word, place_read, numbers_in, rest_after, and_left, and_right, if_no, if_yes, bytes_same, bytes_alike}
 
 -- ---- bytes that a list lacks
 abbrev pub Lacks : ℕ → List ℕ → Type 0
@@ -102,18 +88,18 @@ place_sound line place e =
     let most = b.2 in
     (line_sound line place.0 place.1 (omega arith) a.0 b.0, (a.2, b.1, b.2))
 
-pub place_complete : (place : ℕ × ℕ) → IsPlace place → place_read (place_line place) ≡ Some place
-place_complete place is =
-    let a : ℕ = place.0 in
-    let b : ℕ = place.1 in
-    let most_a = is.0 in
-    let most_b = is.2 in
-    let small_a : a < 2 ^ 64 = omega arith in
-    let small_b : b < 2 ^ 64 = omega arith in
+pair_complete : (low high least most a b : ℕ) → high < 2 ^ 64 → most < 2 ^ 64 → low ≤ a → a ≤ high → least ≤ b → b ≤ most
+    → pair_of (number_in low high (word_of (decimal a ++ 32 ∷ decimal b))) (number_in least most (after_word (decimal a ++ 32 ∷ decimal b))) ≡ Some (a, b)
+pair_complete low high least most a b high_fits most_fits a_low a_high b_least b_most =
+    let small_a : a < 2 ^ 64 = omega (arith, high_fits, a_high) in
+    let small_b : b < 2 ^ 64 = omega (arith, most_fits, b_most) in
     let lacks = decimal_lacks_blank a small_a in
-    let first = ap (number_in 0 30) (word_before (decimal a) (decimal b) lacks) ∙ number_complete 0 30 a small_a (omega arith) is.0 in
-    let second = ap (number_in 1 4294967295) (word_after (decimal a) (decimal b) lacks) ∙ number_complete 1 4294967295 b small_b is.1 is.2 in
-    ap (λ o. pair_of o (number_in 1 4294967295 (after_word (place_line place)))) first ∙ ap (λ o. pair_of (Some a) o) second
+    let first = ap (number_in low high) (word_before (decimal a) (decimal b) lacks) ∙ number_complete low high a small_a a_low a_high in
+    let second = ap (number_in least most) (word_after (decimal a) (decimal b) lacks) ∙ number_complete least most b small_b b_least b_most in
+    ap (λ o. pair_of o (number_in least most (after_word (decimal a ++ 32 ∷ decimal b)))) first ∙ ap (λ o. pair_of (Some a) o) second
+
+pub place_complete : (place : ℕ × ℕ) → IsPlace place → place_read (place_line place) ≡ Some place
+place_complete place is = pair_complete 0 30 1 4294967295 place.0 place.1 (omega arith) (omega arith) (omega arith) is.0 is.1 is.2
 
 pub numbers_sound : (line : List ℕ) (numbers : ℕ × ℕ) → numbers_in line ≡ Some numbers → (line ≡ decimal numbers.0 ++ 32 ∷ decimal numbers.1) × AreNumbers numbers.0 numbers.1
 numbers_sound line numbers e =
@@ -124,16 +110,7 @@ numbers_sound line numbers e =
     (line_sound line numbers.0 numbers.1 (omega arith) a.0 b.0, record { least = a.1; most = a.2; some = b.1; few = b.2 })
 
 pub numbers_complete : (heap limit : ℕ) → AreNumbers heap limit → numbers_in (decimal heap ++ 32 ∷ decimal limit) ≡ Some (heap, limit)
-numbers_complete heap limit are =
-    let most_a = are.most in
-    let most_b = are.few in
-    let small_a : heap < 2 ^ 64 = omega arith in
-    let small_b : limit < 2 ^ 64 = omega arith in
-    let lacks = decimal_lacks_blank heap small_a in
-    let line : List ℕ = decimal heap ++ 32 ∷ decimal limit in
-    let first = ap (number_in 16 65536) (word_before (decimal heap) (decimal limit) lacks) ∙ number_complete 16 65536 heap small_a are.least are.most in
-    let second = ap (number_in 1 200000) (word_after (decimal heap) (decimal limit) lacks) ∙ number_complete 1 200000 limit small_b are.some are.few in
-    ap (λ o. pair_of o (number_in 1 200000 (after_word line))) first ∙ ap (λ o. pair_of (Some heap) o) second
+numbers_complete heap limit are = pair_complete 16 65536 1 200000 heap limit (omega arith) (omega arith) are.least are.most are.some are.few
 
 -- ---- the word of the schedule
 pub rest_after_sound : (word line rest : List ℕ) → rest_after word line ≡ Some rest → line ≡ word ++ rest

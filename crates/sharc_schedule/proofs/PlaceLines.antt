@@ -1,32 +1,18 @@
 -- The plain reader answers what the lines say, and else the first line at fault.
 use Rattle.sharc_schedule.proofs.{Imports.{◌≡◌, ◌≢◌, ℕ, suc, ◌+◌, ◌<◌, ◌≤◌, ◌^◌, Bool, true, false, List, [], ◌∷◌, ◌++◌, Option, Some, None, length, map, take, decimal, refl, sym, ap, ◌∙◌, subst, arith, if◌then◌else◌, decimal_is_IsNumeral, Result, Ok, Err, bytes_eq, place_line, text_line, IsPlace, ArePlaces, place_read, after_word, with_place, read_places, if_no, bytes_same}, Numbers.{bytes_differ, decimal_lacks_blank, word_after, place_sound, place_complete}}
 
-abbrev IsOk : {A : Type 0} → Result A ℕ → Type 0
-IsOk (Ok x) = Unit {0}
-IsOk (Err n) = ⊥
-
-abbrev ok_or : {A : Type 0} → A → Result A ℕ → A
-ok_or a (Ok x) = x
-ok_or a (Err n) = a
-
-abbrev err_or : {A : Type 0} → ℕ → Result A ℕ → ℕ
-err_or k (Ok x) = k
-err_or k (Err n) = n
-
+-- what a result is
 abbrev pub Same : (A : Type 0) → Result A ℕ → Result A ℕ → Type 0
 Same A a b = a ≡ b
 
 pub err_not_ok : {A : Type 0} (n : ℕ) (x : A) → Same A (Err n) (Ok x) → ⊥
-err_not_ok n x e = subst IsOk (sym e) tt
-
-pub ok_not_err : {A : Type 0} (n : ℕ) (x : A) → Same A (Ok x) (Err n) → ⊥
-ok_not_err n x e = subst IsOk e tt
+err_not_ok n x e = cc
 
 pub ok_is : {A : Type 0} (x y : A) → Same A (Ok x) (Ok y) → x ≡ y
-ok_is x y e = ap (λ r. ok_or x r) e
+ok_is x y e = cc
 
 pub err_is : (A : Type 0) (a b : ℕ) → Same A (Err a) (Err b) → a ≡ b
-err_is A a b e = ap (λ r. err_or a r) e
+err_is A a b e = cc
 
 -- ---- places
 -- no place is the line of the text
@@ -81,27 +67,24 @@ pub record Faults {A : Type 0} (read : List (List ℕ) → ℕ → Result A ℕ)
   pub before : read (take i lines ++ more) n ≡ Ok answer
   pub here : i < length lines → (others : List (List ℕ)) → read (take (suc i) lines ++ others) n ≡ Err k
 
+-- it is that of the first line, or of none
+pub first_fault : {A : Type 0} (read : List (List ℕ) → ℕ → Result A ℕ) (lines : List (List ℕ)) (n k : ℕ) (more : List (List ℕ)) (answer : A) → Same A (Err n) (Err k) → read more n ≡ Ok answer
+    → (0 < length lines → (others : List (List ℕ)) → read (take 1 lines ++ others) n ≡ Err k) → Faults read lines n k
+first_fault {A} read lines n k more answer e before here = record { i = 0; k_is = sym (err_is A n k e) ∙ omega arith; within = omega arith; more = more; answer = answer; before = before; here = here }
+
 pub places_fault : (lines : List (List ℕ)) (n k : ℕ) → read_places lines n ≡ Err k → Faults read_places lines n k
-places_fault [] n k e = record { i = 0; k_is = sym (err_is (List (ℕ × ℕ)) n k e) ∙ omega arith; within = omega arith; more = text_line ∷ []; answer = []; before = refl; here = λ lt. absurd (omega arith) }
+places_fault [] n k e = first_fault read_places [] n k (text_line ∷ []) [] e refl (λ lt. absurd (omega arith))
 places_fault (line ∷ lines) n k e = by (bytes_eq line text_line) refl e (places_fault lines (n + 1)) where
   by : (b : Bool) → bytes_eq line text_line ≡ b → (if b then Ok [] else with_place (place_read line) n (read_places lines (n + 1))) ≡ Err k
       → ((f : ℕ) → read_places lines (n + 1) ≡ Err f → Faults read_places lines (n + 1) f) → Faults read_places (line ∷ lines) n k
-  by true is e r = let none : List (ℕ × ℕ) = [] in absurd (ok_not_err k none e)
+  by true is e r = let none : List (ℕ × ℕ) = [] in absurd (err_not_ok k none (sym e))
   by false is e r = one (place_read line) refl (read_places lines (n + 1)) refl e where
     step : (others : List (List ℕ)) → read_places (line ∷ others) n ≡ with_place (place_read line) n (read_places others (n + 1))
     step others = let none : List (ℕ × ℕ) = [] in if_no (bytes_eq line text_line) (Ok none) (with_place (place_read line) n (read_places others (n + 1))) is
 
     one : (o : Option (ℕ × ℕ)) → place_read line ≡ o → (rest : Result (List (ℕ × ℕ)) ℕ) → read_places lines (n + 1) ≡ rest → with_place o n rest ≡ Err k → Faults read_places (line ∷ lines) n k
-    one None p rest q e = record {
-      i = 0;
-      k_is = sym (err_is (List (ℕ × ℕ)) n k e) ∙ omega arith;
-      within = omega arith;
-      more = text_line ∷ [];
-      answer = [];
-      before = refl;
-      here = λ lt others. step others ∙ (ap (λ o. with_place o n (read_places others (n + 1))) p ∙ e);
-    }
-    one (Some place) p (Ok more) q e = absurd (ok_not_err k (place ∷ more) e)
+    one None p rest q e = first_fault read_places (line ∷ lines) n k (text_line ∷ []) [] e refl (λ lt others. step others ∙ (ap (λ o. with_place o n (read_places others (n + 1))) p ∙ e))
+    one (Some place) p (Ok more) q e = absurd (err_not_ok k (place ∷ more) (sym e))
     one (Some place) p (Err f) q e =
         let same : f ≡ k = err_is (List (ℕ × ℕ)) f k e in
         let later = r f q in

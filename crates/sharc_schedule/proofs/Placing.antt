@@ -1,5 +1,5 @@
 -- The place of a thread among those that are enabled, and that it stays the same where only its own turns come, without a word operation.
-use Rattle.sharc_schedule.proofs.{Imports.{◌≡◌, ◌≢◌, ℕ, zero, suc, ◌+◌, ◌<◌, ◌≤◌, Bool, true, false, nat_eq, List, ◌∷◌, ◌++◌, filter, sym, ap, ◌∙◌, subst, arith, eq-eqb, ne_eqb, if◌then◌else◌, range_with_len, dec_le, ℕ_discrete, dite, Code, Shape, RunLaws, Turn, Owns, ThreadLaws, place_after, is_enabled, TableLaws, Walk, enabled, StandsAt, Quiet, place_in, if_no, if_yes, filter_agrees}, Making.others_same}
+use Rattle.sharc_schedule.proofs.{Imports.{◌≡◌, ◌≢◌, ℕ, zero, suc, ◌+◌, ◌<◌, ◌≤◌, Bool, true, false, nat_eq, List, ◌∷◌, ◌++◌, filter, sym, ap, ◌∙◌, subst, arith, eq-eqb, ne_eqb, if◌then◌else◌, range_with_len, ℕ_discrete, Code, Shape, RunLaws, Turn, Owns, ThreadLaws, place_after, is_enabled, TableLaws, Walk, enabled, StandsAt, Quiet, place_in, if_no, if_yes, filter_agrees}, Making.others_same}
 
 -- how many numbers below this one pass a test
 abbrev pub passed : (ℕ → Bool) → ℕ → ℕ
@@ -34,16 +34,13 @@ one_here false t first below all xs on same is = absurd (let k : false ≡ true 
 place_from : (f : ℕ → Bool) (t first n : ℕ) → first ≤ t → t < first + n → f t ≡ true → place_in t (filter f (range_with_len first n)) + passed f first ≡ passed f t
 place_from f t first zero low high on = absurd (omega (arith, low, high))
 place_from f t first (suc n) low high on = by (ℕ_discrete t first) (λ l h. place_from f t (first + 1) n l h on) where
-  next : t ≢ first → first ≤ t → first + 1 ≤ t
-  next apart low = dite (dec_le t first) (λ le. absurd (apart (omega arith))) (λ not. omega arith)
-
   by : Dec (t ≡ first) → (first + 1 ≤ t → t < first + 1 + n → place_in t (filter f (range_with_len (first + 1) n)) + passed f (first + 1) ≡ passed f t)
       → place_in t (if f first then first ∷ filter f (range_with_len (first + 1) n) else filter f (range_with_len (first + 1) n)) + passed f first ≡ passed f t
   by (yes e) r = one_here (f first) t first (passed f first) (passed f t) (filter f (range_with_len (first + 1) n)) (ap f (sym e) ∙ on) e (ap (passed f) (sym e))
   by (no apart) r =
       let one : passed f (first + 1) ≡ passed f first + (if f first then 1 else 0) = ap (passed f) (let k : first + 1 ≡ suc first = omega arith in k) in
       one_apart (f first) t first (passed f first) (passed f t) (filter f (range_with_len (first + 1) n)) apart
-      (subst (λ m. place_in t (filter f (range_with_len (first + 1) n)) + m ≡ passed f t) one (r (next apart low) (omega (arith, high))))
+      (subst (λ m. place_in t (filter f (range_with_len (first + 1) n)) + m ≡ passed f t) one (r (omega (arith, low, apart)) (omega (arith, high))))
 
 pub place_passed : (f : ℕ → Bool) (t n : ℕ) → t < n → f t ≡ true → place_in t (filter f (range_with_len 0 n)) ≡ passed f t
 place_passed f t n high on = let p = place_from f t 0 n (omega arith) (omega (arith, high)) on in omega (arith, p)

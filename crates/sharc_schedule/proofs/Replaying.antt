@@ -1,5 +1,5 @@
 -- The chooser of a schedule leads to the run of its turns.
-use Rattle.sharc_schedule.proofs.{Imports.{◌≡◌, ℕ, ◌+◌, ◌<◌, ◌≤◌, Bool, true, false, not, ◌&&◌, ◌||◌, nat_eq, nat_lt, ⊎_elim, List, [], ◌∷◌, ◌++◌, Option, Some, None, length, refl, sym, ap, ◌∙◌, subst, arith, append_assoc, length-append, if◌then◌else◌, append-nil, lt-ltb, le-ltb, true_or_false, slice_index, range_with_len, dec_le, ℕ_discrete, dite, WordEvent, WordStep, THREADS, SourceEvent, Code, Shape, TurnState, Runs, Tries, Stopped, Ended, Machine, state_word, opening_words, turn, after, asked_by, may_go, counted, Turn, Global, OneThread, MayTurn, IsRun, Answered, is_started, result_of, step_of, state_now, made_now, opening_of, scheduled, threads_of, RunLaws, ThreadLaws, found_now, behind, waits_now, one_thread, bounds, place_after, is_enabled, enabled, AreChosen, is_try, place_in, places_of, or_first}, Trying.{NoTries, put_own, put_other}, Among.{Among, place_within, place_is, among_filter, among_range, none_left, Last, cut, index_seam}}
+use Rattle.sharc_schedule.proofs.{Imports.{◌≡◌, ℕ, ◌+◌, ◌<◌, ◌≤◌, Bool, true, false, not, ◌&&◌, ◌||◌, nat_eq, nat_lt, ⊎_elim, List, [], ◌∷◌, ◌++◌, Option, Some, None, length, refl, sym, ap, ◌∙◌, subst, arith, append_assoc, length-append, if◌then◌else◌, append-nil, lt-ltb, le-ltb, true_or_false, slice_index, range_with_len, dec_le, ℕ_discrete, dite, WordEvent, WordStep, THREADS, SourceEvent, Code, Shape, TurnState, Tries, Machine, state_word, opening_words, turn, after, asked_by, may_go, counted, Turn, Global, OneThread, MayTurn, IsRun, Answered, is_started, result_of, step_of, state_now, made_now, opening_of, scheduled, threads_of, RunLaws, ThreadLaws, found_now, behind, waits_now, one_thread, bounds, place_after, is_enabled, enabled, AreChosen, is_try, place_in, places_of, or_first}, Trying.{NoTries, put_own, put_other}, Among.{Among, place_within, place_is, among_filter, among_range, none_left, cut, index_seam}}
 use Rattle.sharc_code.specs.Machine as Step
 
 all_four : (a b c d : Bool) → a ≡ true → b ≡ true → c ≡ true → d ≡ false → (a && (b && (c && not d))) ≡ true
@@ -42,19 +42,15 @@ module _ (laws : RunLaws) (threads : ThreadLaws) (code : Code) (s : Shape) (limi
   Few turns = (t : ℕ) → (Place turns).made t ≤ limit
 
   pub few_before : (one : Turn) (earlier : List Turn) → Few (one ∷ earlier) → Few earlier
-  few_before one earlier few t = by (ℕ_discrete t one.thread) where
-    g : Global Machine
-    g = Place earlier
-
-    by : Dec (t ≡ one.thread) → g.made t ≤ limit
-    by (yes e) = let k : made_now m g one ≤ limit = subst (λ n. n ≤ limit) (put_own g.made one.thread (made_now m g one) t e) (few t) in let is : g.made t ≡ g.made one.thread = ap g.made e in omega arith
-    by (no apart) = subst (λ n. n ≤ limit) (put_other g.made one.thread (made_now m g one) t apart) (few t)
+  few_before one earlier few t =
+      let g : Global Machine = Place earlier in
+      dite (ℕ_discrete t one.thread)
+      (λ e. let k : made_now m g one ≤ limit = subst (λ n. n ≤ limit) (put_own g.made one.thread (made_now m g one) t e) (few t) in let is : g.made t ≡ g.made one.thread = ap g.made e in omega (arith, k, is))
+      (λ apart. subst (λ n. n ≤ limit) (put_other g.made one.thread (made_now m g one) t apart) (few t))
 
   pub some_counted : (state : TurnState) → is_try state ≡ false → counted state ≡ 1
-  some_counted Runs e = refl
   some_counted Tries e = absurd cc
-  some_counted Stopped e = refl
-  some_counted Ended e = refl
+  some_counted _ e = refl
 
   pub enabled_turn : (one : Turn) (earlier : List Turn) → MayTurn bounds m (Place earlier) one → is_try (state_now m (Place earlier) one).at.state ≡ false → Few (one ∷ earlier)
       → is_enabled code s limit (Place earlier) one.thread ≡ true
@@ -143,24 +139,23 @@ module _ (laws : RunLaws) (threads : ThreadLaws) (code : Code) (s : Shape) (limi
     -- a run that was chosen is the beginning of one that is over
     begins : (one other : List Turn) → Run one → Chosen one → Run other → Chosen other → Over other → (later : List Turn) × (other ≡ later ++ one)
     begins [] other run chosen run' chosen' over = (other, sym (append-nil other))
-    begins (one ∷ earlier) other run chosen run' chosen' over = by (begins earlier other run.0 chosen.0 run' chosen' over) where
-      by : (later : List Turn) × (other ≡ later ++ earlier) → (later : List Turn) × (other ≡ later ++ one ∷ earlier)
-      by r = ⊎_elim ends goes (cut r.0) where
-        ends : r.0 ≡ [] → (later : List Turn) × (other ≡ later ++ one ∷ earlier)
-        ends none = absurd (over_ends one earlier (subst Over (r.1 ∙ ap (λ ts. ts ++ earlier) none) over) chosen)
-
-        goes : Last r.0 → (later : List Turn) × (other ≡ later ++ one ∷ earlier)
-        goes last =
-            let split : other ≡ last.before ++ last.last ∷ earlier = r.1 ∙ (ap (λ ts. ts ++ earlier) last.is ∙ append_assoc last.before (last.last ∷ []) earlier) in
-            let run_there = run_suffix last.before (last.last ∷ earlier) (subst Run split run') in
-            let chosen_there = chosen_suffix last.before (last.last ∷ earlier) (subst Chosen split chosen') in
-            (last.before, split ∙ ap (λ ts. last.before ++ ts) (one_turn last.last one earlier run_there run chosen_there chosen))
+    begins (one ∷ earlier) other run chosen run' chosen' over =
+        let r = begins earlier other run.0 chosen.0 run' chosen' over in
+        ⊎_elim
+        (λ none. absurd (over_ends one earlier (subst Over (r.1 ∙ ap (λ ts. ts ++ earlier) none) over) chosen))
+        (λ last.
+        let split : other ≡ last.before ++ last.last ∷ earlier = r.1 ∙ (ap (λ ts. ts ++ earlier) last.is ∙ append_assoc last.before (last.last ∷ []) earlier) in
+        let run_there = run_suffix last.before (last.last ∷ earlier) (subst Run split run') in
+        let chosen_there = chosen_suffix last.before (last.last ∷ earlier) (subst Chosen split chosen') in
+        (last.before, split ∙ ap (λ ts. last.before ++ ts) (one_turn last.last one earlier run_there run chosen_there chosen)))
+        (cut r.0)
 
     pub one_run : (one other : List Turn) → Run one → Chosen one → Over one → Run other → Chosen other → Over other → one ≡ other
-    one_run one other run chosen over run' chosen' over' = by (begins one other run chosen run' chosen' over') where
-      by : (later : List Turn) × (other ≡ later ++ one) → one ≡ other
-      by r = ⊎_elim (λ none. sym (r.1 ∙ ap (λ ts. ts ++ one) none)) more (cut r.0) where
-        more : Last r.0 → one ≡ other
-        more last =
-            let split : other ≡ last.before ++ last.last ∷ one = r.1 ∙ (ap (λ ts. ts ++ one) last.is ∙ append_assoc last.before (last.last ∷ []) one) in
-            absurd (over_ends last.last one over (chosen_suffix last.before (last.last ∷ one) (subst Chosen split chosen')))
+    one_run one other run chosen over run' chosen' over' =
+        let r = begins one other run chosen run' chosen' over' in
+        ⊎_elim
+        (λ none. sym (r.1 ∙ ap (λ ts. ts ++ one) none))
+        (λ last.
+        let split : other ≡ last.before ++ last.last ∷ one = r.1 ∙ (ap (λ ts. ts ++ one) last.is ∙ append_assoc last.before (last.last ∷ []) one) in
+        absurd (over_ends last.last one over (chosen_suffix last.before (last.last ∷ one) (subst Chosen split chosen'))))
+        (cut r.0)

@@ -1,5 +1,5 @@
 -- The plain reader on whole files.
-use Rattle.sharc_schedule.proofs.{Imports.{◌≡◌, ℕ, suc, ◌+◌, ◌-◌, List, [], ◌∷◌, ◌++◌, Option, Some, None, map, take, decimal, refl, sym, ap, ◌∙◌, subst, arith, append_assoc, Result, Ok, Err, FileView, place_line, schedule_line, schedule_word, text_line, joined_by, NoneBegins, ArePlaces, AreNumbers, AreLinesOf, numbers_in, rest_after, read_places, with_places, at_schedule, read_source, read_lines, ReadsFiles, ReadsAll, ReadsFaults}, Numbers.{numbers_sound, numbers_complete, rest_after_sound, rest_after_complete, rest_after_none, none_after}, PlaceLines.{err_not_ok, ok_not_err, ok_is, err_is, PlacesAre, places_sound, places_complete, Faults, places_fault}}
+use Rattle.sharc_schedule.proofs.{Imports.{◌≡◌, ℕ, suc, ◌+◌, ◌-◌, List, [], ◌∷◌, ◌++◌, Option, Some, None, map, take, decimal, refl, sym, ap, ◌∙◌, subst, arith, append_assoc, Result, Ok, Err, FileView, place_line, schedule_line, schedule_word, text_line, joined_by, NoneBegins, ArePlaces, AreNumbers, AreLinesOf, numbers_in, rest_after, read_places, with_places, at_schedule, read_source, read_lines, ReadsFiles, ReadsAll, ReadsFaults}, Numbers.{numbers_sound, numbers_complete, rest_after_sound, rest_after_complete, rest_after_none, none_after}, PlaceLines.{err_not_ok, ok_is, err_is, PlacesAre, places_sound, places_complete, Faults, first_fault, places_fault}}
 
 joined_more : (a b : List ℕ) (lines : List (List ℕ)) → joined_by (a ++ 10 ∷ b) lines ≡ a ++ 10 ∷ joined_by b lines
 joined_more a b [] = refl
@@ -75,15 +75,7 @@ abbrev ending : List (List ℕ)
 ending = schedule_line 16 1 ∷ text_line ∷ []
 
 pub source_fault : (source : List ℕ) (lines : List (List ℕ)) (n k : ℕ) → read_source source lines n ≡ Err k → Faults (λ ls m. read_source source ls m) lines n k
-source_fault source [] n k e = record {
-  i = 0;
-  k_is = sym (err_is FileView n k e) ∙ omega arith;
-  within = omega arith;
-  more = ending;
-  answer = file_of source 16 1 [];
-  before = source_complete source [] [] n 16 1 [] tt least_numbers tt;
-  here = λ lt. absurd (omega arith);
-}
+source_fault source [] n k e = first_fault (λ ls m. read_source source ls m) [] n k ending (file_of source 16 1 []) e (source_complete source [] [] n 16 1 [] tt least_numbers tt) (λ lt. absurd (omega arith))
 source_fault source (line ∷ lines) n k e = by (rest_after schedule_word line) refl e (source_fault (source ++ 10 ∷ line) lines (n + 1) k) where
   by : (o : Option (List ℕ)) → rest_after schedule_word line ≡ o → at_schedule o source lines n (read_source (source ++ 10 ∷ line) lines (n + 1)) ≡ Err k
       → (read_source (source ++ 10 ∷ line) lines (n + 1) ≡ Err k → Faults (λ ls m. read_source (source ++ 10 ∷ line) ls m) lines (n + 1) k) → Faults (λ ls m. read_source source ls m) (line ∷ lines) n k
@@ -106,16 +98,9 @@ source_fault source (line ∷ lines) n k e = by (rest_after schedule_word line) 
     step others = ap (λ o. at_schedule o source others n (read_source (source ++ 10 ∷ line) others (n + 1))) is
 
     one : (o : Option (ℕ × ℕ)) → numbers_in rest ≡ o → (p : Result (List (ℕ × ℕ)) ℕ) → read_places lines (n + 1) ≡ p → with_places source o n p ≡ Err k → Faults (λ ls m. read_source source ls m) (line ∷ lines) n k
-    one None o p q e = record {
-      i = 0;
-      k_is = sym (err_is FileView n k e) ∙ omega arith;
-      within = omega arith;
-      more = ending;
-      answer = file_of source 16 1 [];
-      before = source_complete source [] [] n 16 1 [] tt least_numbers tt;
-      here = λ lt others. step others ∙ (ap (λ x. with_places source x n (read_places others (n + 1))) o ∙ e);
-    }
-    one (Some numbers) o (Ok places) q e = absurd (ok_not_err k (file_of source numbers.0 numbers.1 places) e)
+    one None o p q e = first_fault (λ ls m. read_source source ls m) (line ∷ lines) n k ending (file_of source 16 1 []) e (source_complete source [] [] n 16 1 [] tt least_numbers tt)
+        (λ lt others. step others ∙ (ap (λ x. with_places source x n (read_places others (n + 1))) o ∙ e))
+    one (Some numbers) o (Ok places) q e = absurd (err_not_ok k (file_of source numbers.0 numbers.1 places) (sym e))
     one (Some numbers) o (Err f) q e =
         let same : f ≡ k = err_is FileView f k e in
         let later = places_fault lines (n + 1) f q in

@@ -1,24 +1,19 @@
 -- A checked run without its failed tries is a checked run with the same ends.
-use Rattle.sharc_schedule.proofs.Imports.{◌≡◌, ◌≢◌, ℕ, ◌+◌, ◌≤◌, Bool, true, false, ◌||◌, nat_eq, List, [], ◌∷◌, refl, sym, ap, ◌∙◌, subst, arith, eq-eqb, ne_eqb, if◌then◌else◌, ℕ_discrete, SourceEvent, Code, Shape, TurnState, Runs, Tries, Stopped, Ended, Machine, fails, opening_words, turn, after, asked_by, may_go, counted, Turn, Global, OneThread, MayTurn, IsRun, Answered, is_started, result_of, put, state_now, made_now, words_now, after_turn, opening_of, ThreadLaws, settle, settled, one_thread, bounds, place_after, is_try, without_tries, SameEnds, if_no, if_yes, or_known}
+use Rattle.sharc_schedule.proofs.Imports.{◌≡◌, ◌≢◌, ℕ, ◌+◌, ◌≤◌, Bool, true, false, ◌||◌, nat_eq, List, [], ◌∷◌, refl, sym, ap, ◌∙◌, subst, arith, eq-eqb, ne_eqb, if◌then◌else◌, ℕ_discrete, dite, SourceEvent, Code, Shape, TurnState, Runs, Tries, Machine, fails, opening_words, turn, after, asked_by, may_go, counted, Turn, Global, OneThread, MayTurn, IsRun, Answered, is_started, result_of, put, state_now, made_now, words_now, after_turn, opening_of, ThreadLaws, settle, settled, one_thread, bounds, place_after, is_try, without_tries, SameEnds, if_no, if_yes, or_known}
 
 -- ---- one thread
 pub tries_where : (state : TurnState) → is_try state ≡ true → state ≡ Tries
-tries_where Runs e = absurd cc
 tries_where Tries e = refl
-tries_where Stopped e = absurd cc
-tries_where Ended e = absurd cc
+tries_where _ e = absurd cc
 
 goes_settled : (state : TurnState) → may_go state ≡ true → settle state ≡ Runs
 goes_settled Runs e = refl
 goes_settled Tries e = refl
-goes_settled Stopped e = absurd cc
-goes_settled Ended e = absurd cc
+goes_settled _ e = absurd cc
 
 pub may_settle : (state : TurnState) → may_go (settle state) ≡ may_go state
-may_settle Runs = refl
 may_settle Tries = refl
-may_settle Stopped = refl
-may_settle Ended = refl
+may_settle _ = refl
 
 pub same_may : (m n : Machine) → settled m ≡ settled n → may_go m.at.state ≡ may_go n.at.state
 same_may m n e = sym (may_settle m.at.state) ∙ (ap (λ (x : Machine). may_go x.at.state) e ∙ may_settle n.at.state)
@@ -35,6 +30,14 @@ put_other f i v j apart = if_no (nat_eq j i) v (f j) (ne_eqb j i apart)
 
 pub put_own : {A : Type 0} (f : ℕ → A) (i : ℕ) (v : A) (j : ℕ) → j ≡ i → put f i v j ≡ v
 put_own f i v j same = if_yes (nat_eq j i) v (f j) (eq-eqb j i same)
+
+-- where a value was put into each of two functions, they agree if these values and all others do
+puts_agree : {A B : Type 0} (h : A → B) (f g : ℕ → A) (i : ℕ) (v w : A) → h v ≡ h w → ((j : ℕ) → h (f j) ≡ h (g j)) → (j : ℕ) → h (put f i v j) ≡ h (put g i w j)
+puts_agree h f g i v w this others j = dite (ℕ_discrete j i) (λ e. rw (eq-eqb j i e) this) (λ apart. rw (ne_eqb j i apart) (others j))
+
+-- and where one was put into the second alone
+put_agrees : {A B : Type 0} (h : A → B) (f g : ℕ → A) (i : ℕ) (w : A) → h (f i) ≡ h w → ((j : ℕ) → h (f j) ≡ h (g j)) → (j : ℕ) → h (f j) ≡ h (put g i w j)
+put_agrees h f g i w this others j = dite (ℕ_discrete j i) (λ e. rw (eq-eqb j i e) (ap (λ k. h (f k)) e ∙ this)) (λ apart. rw (ne_eqb j i apart) (others j))
 
 module _ (laws : ThreadLaws) (code : Code) (s : Shape) where
   abbrev m : OneThread Machine SourceEvent
@@ -74,24 +77,12 @@ module _ (laws : ThreadLaws) (code : Code) (s : Shape) where
       room = subst (λ n. n ≤ 100000000) (sym made_same) may.room;
     }
 
-    threads_kept : (u : ℕ) → settled (put h.threads t (state_now m h one) u) ≡ settled (put g.threads t (state_now m g one) u)
-    threads_kept u = by (ℕ_discrete u t) where
-      by : Dec (u ≡ t) → settled (put h.threads t (state_now m h one) u) ≡ settled (put g.threads t (state_now m g one) u)
-      by (yes e) = ap settled (put_own h.threads t (state_now m h one) u e ∙ (state_same ∙ sym (put_own g.threads t (state_now m g one) u e)))
-      by (no e) = ap settled (put_other h.threads t (state_now m h one) u e) ∙ (same.threads u ∙ sym (ap settled (put_other g.threads t (state_now m g one) u e)))
-
-    made_kept : (u : ℕ) → put h.made t (made_now m h one) u ≡ put g.made t (made_now m g one) u
-    made_kept u = by (ℕ_discrete u t) where
-      by : Dec (u ≡ t) → put h.made t (made_now m h one) u ≡ put g.made t (made_now m g one) u
-      by (yes e) = put_own h.made t (made_now m h one) u e ∙ (made_same ∙ sym (put_own g.made t (made_now m g one) u e))
-      by (no e) = put_other h.made t (made_now m h one) u e ∙ (same.made u ∙ sym (put_other g.made t (made_now m g one) u e))
-
     pub kept_same : SameEnds (after_turn bounds m h one) (after_turn bounds m g one)
     kept_same = record {
       words = ap (λ (ws : List ℕ). words_now ws one.event) same.words;
-      threads = threads_kept;
+      threads = puts_agree settled h.threads g.threads t (state_now m h one) (state_now m g one) (ap settled state_same) same.threads;
       started = (λ u. ap (λ (ws : List ℕ). is_started bounds (words_now ws one.event) u || h.started u) same.words ∙ ap (λ b. is_started bounds (words_now g.words one.event) u || b) (same.started u));
-      made = made_kept;
+      made = puts_agree (λ (n : ℕ). n) h.made g.made t (made_now m h one) (made_now m g one) made_same same.made;
     }
 
     module _ (try : is_try (state_now m g one).at.state ≡ true) (now : (u : ℕ) → is_started bounds g.words u ≡ true → g.started u ≡ true) where
@@ -101,23 +92,8 @@ module _ (laws : ThreadLaws) (code : Code) (s : Shape) where
       words_stay : words_now g.words one.event ≡ g.words
       words_stay = laws.words code s g.words old one.event may.next.asks may.answered tries
 
-      threads_dropped : (u : ℕ) → settled (h.threads u) ≡ settled (put g.threads t (state_now m g one) u)
-      threads_dropped u = by (ℕ_discrete u t) where
-        by : Dec (u ≡ t) → settled (h.threads u) ≡ settled (put g.threads t (state_now m g one) u)
-        by (yes e) =
-            same.threads u
-            ∙ (ap (λ v. settled (g.threads v)) e
-            ∙ (try_settled old (state_now m g one) may.next.runs (laws.tries code s old (result_of one.event) tries) ∙ ap settled (sym (put_own g.threads t (state_now m g one) u e))))
-        by (no e) = same.threads u ∙ sym (ap settled (put_other g.threads t (state_now m g one) u e))
-
-      made_dropped : (u : ℕ) → h.made u ≡ put g.made t (made_now m g one) u
-      made_dropped u = by (ℕ_discrete u t) where
-        none : made_now m g one ≡ g.made t
-        none = ap (λ state. g.made t + counted state) tries ∙ omega arith
-
-        by : Dec (u ≡ t) → h.made u ≡ put g.made t (made_now m g one) u
-        by (yes e) = same.made u ∙ (ap g.made e ∙ (sym none ∙ sym (put_own g.made t (made_now m g one) u e)))
-        by (no e) = same.made u ∙ sym (put_other g.made t (made_now m g one) u e)
+      made_stays : g.made t ≡ made_now m g one
+      made_stays = sym (ap (λ state. g.made t + counted state) tries ∙ omega arith)
 
       started_dropped : (u : ℕ) → h.started u ≡ (is_started bounds (words_now g.words one.event) u || g.started u)
       started_dropped u =
@@ -126,9 +102,9 @@ module _ (laws : ThreadLaws) (code : Code) (s : Shape) where
       pub dropped_same : SameEnds h (after_turn bounds m g one)
       dropped_same = record {
         words = same.words ∙ sym words_stay;
-        threads = threads_dropped;
+        threads = put_agrees settled h.threads g.threads t (state_now m g one) (same.threads t ∙ try_settled old (state_now m g one) may.next.runs (laws.tries code s old (result_of one.event) tries)) same.threads;
         started = started_dropped;
-        made = made_dropped;
+        made = put_agrees (λ (n : ℕ). n) h.made g.made t (made_now m g one) (same.made t ∙ made_stays) same.made;
       }
 
   -- ---- all turns

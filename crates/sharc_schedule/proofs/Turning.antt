@@ -1,5 +1,5 @@
 -- One more turn of the run that makes a schedule.
-use Rattle.sharc_schedule.proofs.{Imports.{◌≡◌, ℕ, zero, suc, ◌<◌, ◌≤◌, Bool, true, false, List, [], ◌∷◌, ◌++◌, length, replicate, get_or, sym, ap, ◌∙◌, subst, arith, inl, true_or_false, nat_lt, ℕ_discrete, THREADS, Code, Shape, RunLaws, may_go, counted, Turn, state_now, made_now, ThreadLaws, one_thread, place_after, Standing, is_enabled, TableLaws, Walk, enabled, StandsAt, WentOn, Going, is_try, place_in, places_of, counted_together, AllCount, GoesAt, OneMore, Walked, Reached, both, lt_true}, Fitting.{Counted, sum_bound, all_counted, places_small, made_all}, Following.no_count, Replaying.{Run, Few, places_length}, Trying.{NoTries, put_own, put_other}}
+use Rattle.sharc_schedule.proofs.{Imports.{dite, ◌≡◌, ℕ, zero, suc, ◌<◌, ◌≤◌, Bool, true, false, List, [], ◌∷◌, ◌++◌, length, replicate, get_or, sym, ap, ◌∙◌, subst, arith, inl, true_or_false, nat_lt, ℕ_discrete, THREADS, Code, Shape, RunLaws, may_go, counted, Turn, state_now, made_now, ThreadLaws, one_thread, place_after, Standing, is_enabled, TableLaws, Walk, enabled, StandsAt, WentOn, Going, is_try, place_in, places_of, counted_together, AllCount, GoesAt, OneMore, Walked, Reached, both, lt_true}, Fitting.{Counted, sum_bound, all_counted, places_small, made_all}, Following.no_count, Replaying.{Run, Few, places_length}, Trying.{NoTries, put_own, put_other}}
 
 -- ---- who is enabled
 -- it does not matter by which run it is determined who is enabled
@@ -35,19 +35,17 @@ module _ (laws : RunLaws) (threads : ThreadLaws) (code : Code) (s : Shape) (limi
   -- no thread makes more events than it may
   pub few_after : (one : Turn) (turns : List Turn) → Few laws threads code s limit turns → is_enabled code s limit (place_after code s turns) one.thread ≡ true
       → counted (state_now (one_thread code s) (place_after code s turns) one).at.state ≡ 1 → Few laws threads code s limit (one ∷ turns)
-  few_after one turns few on once u = by (ℕ_discrete u one.thread) where
-    g : Standing
-    g = place_after code s turns
-
-    by : Dec (u ≡ one.thread) → (place_after code s (one ∷ turns)).made u ≤ limit
-    by (yes e) =
-        let parts = both (g.started one.thread) _ on in
-        let goes = both (may_go (g.threads one.thread).at.state) _ parts.1 in
-        let left = both (nat_lt (g.made one.thread) limit) _ goes.1 in
-        let less : g.made one.thread < limit = lt_true (g.made one.thread) limit left.0 in
-        let is : made_now (one_thread code s) g one ≤ limit = omega (arith, less, once) in
-        subst (λ n. n ≤ limit) (sym (put_own g.made one.thread (made_now (one_thread code s) g one) u e)) is
-    by (no apart) = subst (λ n. n ≤ limit) (sym (put_other g.made one.thread (made_now (one_thread code s) g one) u apart)) (few u)
+  few_after one turns few on once u =
+      let g : Standing = place_after code s turns in
+      dite (ℕ_discrete u one.thread)
+      (λ e.
+      let parts = both (g.started one.thread) _ on in
+      let goes = both (may_go (g.threads one.thread).at.state) _ parts.1 in
+      let left = both (nat_lt (g.made one.thread) limit) _ goes.1 in
+      let less : g.made one.thread < limit = lt_true (g.made one.thread) limit left.0 in
+      let is : made_now (one_thread code s) g one ≤ limit = omega (arith, less, once) in
+      subst (λ n. n ≤ limit) (sym (put_own g.made one.thread (made_now (one_thread code s) g one) u e)) is)
+      (λ apart. subst (λ n. n ≤ limit) (sym (put_other g.made one.thread (made_now (one_thread code s) g one) u apart)) (few u))
 
   -- ---- one more turn
   module _ (t : ℕ) (turns : List Turn) (old new : Going) (h : GoesAt code s limit turns old) where

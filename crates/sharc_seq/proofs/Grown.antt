@@ -1,5 +1,5 @@
 -- A run grows by the turn that was made.
-use Rattle.sharc_seq.proofs.{Imports.{◌≡◌, ℕ, suc, ◌+◌, ◌-◌, ◌<◌, ◌≤◌, Bool, true, List, [], ◌∷◌, ◌++◌, length, get_or, set, filter, Option, Some, None, refl, sym, ap, ◌∙◌, subst, arith, ⊎_elim, cases_eq, get_or-set_same, get_or-set_other, length-set, length-reverse, reverse-append, sum_by-set, nat_lt, ◌||◌, is_some, reverse, range_with_len, PortState, LeadsInWords, place_of_words, THREADS, Code, Shape, Machine, Turn as Act, Local, Asks, turn, after, asked_by, TurnLeads, may_go, counted, turn_with, result_of, step_of, IsOf, put, words_now, state_now, made_now, after_turn, Answered, MayTurn, is_started, threads_of, begins_of, StandingLaws, found_now, one_thread, bounds, place_after, event_in, ThreadView, Standing, is_enabled, TableLaws, Sits, IsSeat, AreSeats, AreOf, may_turn_at, left, left_to, Walk, enabled, IsChosen, IsThreadAt, MadeTurn, MadeTurnAt, ToldAt, FoundAt, Began, StandsAt, WentOn, numbers_of, has_step, has_event, both, or_known, ne_eq, lt_true, eq_refl, any_default, filter_same}, Choosing.{picked, filter_less}}
+use Rattle.sharc_seq.proofs.{Imports.{◌≡◌, ℕ, suc, ◌+◌, ◌-◌, ◌<◌, ◌≤◌, Bool, true, List, [], ◌∷◌, ◌++◌, length, get_or, set, filter, Option, Some, None, refl, sym, ap, ◌∙◌, subst, arith, ⊎_elim, cases_eq, get_or-set_same, get_or-set_other, length-set, length-reverse, reverse-append, sum_by-set, nat_lt, ◌||◌, is_some, reverse, range_with_len, PortState, LeadsInWords, place_of_words, THREADS, Code, Shape, Machine, Turn as Act, Local, Asks, turn, after, asked_by, TurnLeads, may_go, counted, turn_with, result_of, step_of, IsOf, put, words_now, state_now, made_now, after_turn, Answered, MayTurn, is_started, threads_of, begins_of, StandingLaws, found_now, one_thread, bounds, place_after, event_in, ThreadView, Standing, is_enabled, TableLaws, Sits, IsSeat, AreSeats, AreOf, may_turn_at, left, left_to, Walk, enabled, IsChosen, IsThreadAt, MadeTurn, MadeTurnAt, MayGoOn, ToldAt, FoundAt, Began, StandsAt, WentOn, numbers_of, has_step, has_event, both, or_known, ne_eq, lt_true, eq_refl, any_default, filter_same}, Choosing.{picked, filter_less}}
 use Rattle.sharc_code.specs.Runs.{Turn}
 
 -- ---- functions changed at one place
@@ -37,6 +37,34 @@ answered t (Asks step go) found words now h = h.may_follow
 words_are : (t : ℕ) (a : Act) (found : ℕ) (words now : List ℕ) → TurnLeads LeadsInWords t a found (place_of_words words) (place_of_words now) → words_now words (event_in t a found) ≡ now
 words_are t (Local m) found words now h = ap (λ (p : PortState). p.words) h
 words_are t (Asks step go) found words now h = sym (ap (λ (p : PortState). p.words) h.to_is)
+
+-- ---- a table in which one seat changed
+module _ (code : Code) (s : Shape) (threads threads_then : ℕ → Machine) (made made_then : ℕ → ℕ) (started started_then : ℕ → Bool) (t : ℕ) (same_threads : (u : ℕ) → (u ≡ t → ⊥) → threads_then u ≡ threads u)
+    (same_made : (u : ℕ) → (u ≡ t → ⊥) → made_then u ≡ made u) (same_started : (u : ℕ) → started_then u ≡ started u) where
+  elsewhere : (k : ℕ) (x : Option ThreadView) → (k ≡ t → ⊥) → IsSeat code s threads made started k x → IsSeat code s threads_then made_then started_then k x
+  elsewhere k None ne at_k = (same_started k ∙ at_k.0, same_threads k ne ∙ at_k.1, same_made k ne ∙ at_k.2)
+  elsewhere k (Some thread) ne at_k = (
+    same_started k ∙ at_k.0,
+    record {
+      thread_is = at_k.1.thread_is;
+      number = at_k.1.number;
+      machine = at_k.1.machine ∙ sym (same_threads k ne);
+      made_is = at_k.1.made_is ∙ sym (same_made k ne);
+    },
+  )
+
+  pub seats_now : (seats : List (Option ThreadView)) (now : ThreadView) → IsSeat code s threads_then made_then started_then t (Some now) → AreSeats code s threads made started seats
+      → AreSeats code s threads_then made_then started_then (set seats t (Some now))
+  seats_now seats now here are = record {
+    count = length-set seats t (Some now) ∙ are.count;
+    few = λ u e. are.few u (sym (same_started u) ∙ e);
+    each = λ k low.
+        ⊎_elim
+        (λ (e : k ≡ t). subst (λ j. IsSeat code s threads_then made_then started_then j (get_or (set seats t (Some now)) j None)) (sym e)
+        (subst (IsSeat code s threads_then made_then started_then t) (sym (get_or-set_same seats t (Some now) None (omega (arith, low, e, are.count)))) here))
+        (λ (ne : k ≡ t → ⊥). subst (IsSeat code s threads_then made_then started_then k) (sym (get_or-set_other seats t k (Some now) None ne)) (elsewhere k (get_or seats k None) ne (are.each k low)))
+        (cases_eq k t);
+  }
 
 -- ---- the turn of a seat that is enabled, as one of the run
 module _ (code : Code) (s : Shape) (g : Standing) (t : ℕ) (old new : ThreadView) (now : List ℕ)
@@ -85,33 +113,9 @@ module _ (code : Code) (s : Shape) (g : Standing) (t : ℕ) (old new : ThreadVie
     },
   )
 
-  there : (k : ℕ) (x : Option ThreadView) → (k ≡ t → ⊥) → IsSeat code s g.threads g.made g.started k x → IsSeat code s then_.threads then_.made g.started k x
-  there k None ne at_k = (
-    at_k.0,
-    put_other g.threads t k (state_now (one_thread code s) g this_turn) ne ∙ at_k.1,
-    put_other g.made t k (made_now (one_thread code s) g this_turn) ne ∙ at_k.2,
-  )
-  there k (Some thread) ne at_k = (
-    at_k.0,
-    record {
-      thread_is = at_k.1.thread_is;
-      number = at_k.1.number;
-      machine = at_k.1.machine ∙ sym (put_other g.threads t k (state_now (one_thread code s) g this_turn) ne);
-      made_is = at_k.1.made_is ∙ sym (put_other g.made t k (made_now (one_thread code s) g this_turn) ne);
-    },
-  )
-
-  pub seats_now : (seats : List (Option ThreadView)) → AreSeats code s g.threads g.made g.started seats → AreSeats code s then_.threads then_.made g.started (set seats t (Some new))
-  seats_now seats are = record {
-    count = length-set seats t (Some new) ∙ are.count;
-    few = are.few;
-    each = λ k low.
-        ⊎_elim
-        (λ (e : k ≡ t). subst (λ j. IsSeat code s then_.threads then_.made g.started j (get_or (set seats t (Some new)) j None)) (sym e)
-        (subst (IsSeat code s then_.threads then_.made g.started t) (sym (get_or-set_same seats t (Some new) None (omega (arith, low, e, are.count)))) here))
-        (λ (ne : k ≡ t → ⊥). subst (IsSeat code s then_.threads then_.made g.started k) (sym (get_or-set_other seats t k (Some new) None ne)) (there k (get_or seats k None) ne (are.each k low)))
-        (cases_eq k t);
-  }
+  pub set_seats : (seats : List (Option ThreadView)) → AreSeats code s g.threads g.made g.started seats → AreSeats code s then_.threads then_.made g.started (set seats t (Some new))
+  set_seats seats are = seats_now code s g.threads then_.threads g.made then_.made g.started g.started t
+      (λ u ne. put_other g.threads t u (state_now (one_thread code s) g this_turn) ne) (λ u ne. put_other g.made t u (made_now (one_thread code s) g this_turn) ne) (λ u. refl) seats new here are
 
 -- ---- the schedule
 threads_many : (turns : List Turn) → length (threads_of turns) ≡ length turns
@@ -142,14 +146,15 @@ pub record Chose (answers : ℕ → ℕ → ℕ → Type 0) (code : Code) (s : S
   pub low : t < s.threads
   pub yes : is_enabled code s limit g t ≡ true
 
-pub chose : (answers : ℕ → ℕ → ℕ → Type 0) (code : Code) (s : Shape) (limit : ℕ) (g : Standing) (count : ℕ) (among : List ℕ) (place t : ℕ) → among ≡ enabled code s limit g
-    → place < length among → t ≡ get_or among place t → answers count (length among) place → Chose answers code s limit g count t
-chose answers code s limit g count among place t all low is answered =
+pub chose : (answers : ℕ → ℕ → ℕ → Type 0) (code : Code) (s : Shape) (limit : ℕ) (g : Standing) (count : ℕ) (among : List ℕ) (place t turns many : ℕ) → among ≡ enabled code s limit g
+    → turns ≡ count → many ≡ length among → place < many → t ≡ get_or among place t → answers turns many place → Chose answers code s limit g count t
+chose answers code s limit g count among place t turns many all of_turns of_among below is answered =
+    let low : place < length among = omega (arith, of_among, below) in
     let p = picked code s limit g among place t all low is in
     record {
       chosen = record {
         place = place;
-        answered = subst (λ (xs : List ℕ). answers count (length xs) place) all answered;
+        answered = subst (λ n. answers n (length (enabled code s limit g)) place) of_turns (subst (λ n. answers turns n place) (of_among ∙ ap (λ (xs : List ℕ). length xs) all) answered);
         within = subst (λ (xs : List ℕ). place < length xs) all low;
         is = is ∙ any_default among place t 0 low ∙ ap (λ (xs : List ℕ). get_or xs place 0) all;
       };
@@ -162,31 +167,50 @@ thread_at : (code : Code) (s : Shape) (threads : ℕ → Machine) (made : ℕ �
 thread_at code s threads made started t None is = tt
 thread_at code s threads made started t (Some thread) is = is.1.thread_is
 
-pub record SitsAt (code : Code) (s : Shape) (limit : ℕ) (words : List ℕ) (seats : List (Option ThreadView)) (g : Standing) (t : ℕ) (x : Option ThreadView) : Type 0 where
-  pub low : t < length seats
-  pub is : IsSeat code s g.threads g.made g.started t x
+-- the seat of a thread that may go on, as an index into the table finds it
+pub record SitsAt (code : Code) (s : Shape) (limit t : ℕ) (walk : Walk) (x : Option ThreadView) : Type 0 where
+  pub is : get_or walk.threads.seats.items t None ≡ x
   pub thread : IsThreadAt code s x
-  pub may : may_turn_at words limit x ≡ true
+  pub may : may_turn_at walk.port.port limit x ≡ true
 
-pub sits : (laws : TableLaws) (code : Code) (s : Shape) (limit : ℕ) (g : Standing) (words : List ℕ) (seats : List (Option ThreadView)) (t : ℕ) (x : Option ThreadView)
-    → AreOf code s g words seats → is_enabled code s limit g t ≡ true → x ≡ get_or seats t None → SitsAt code s limit words seats g t x
-sits laws code s limit g words seats t x of on e =
-    let low : t < THREADS = of.are.few t (enabled_started code s limit g t on) in
-    let is : IsSeat code s g.threads g.made g.started t x = subst (IsSeat code s g.threads g.made g.started t) (sym e) (of.are.each t low) in
-    record {
-      low = omega (arith, low, of.are.count);
-      is = is;
-      thread = thread_at code s g.threads g.made g.started t x is;
-      may = ap (may_turn_at words limit) e ∙ laws.enabled code s limit g words seats of t ∙ on;
-    }
+module _ (laws : TableLaws) (code : Code) (s : Shape) (limit t : ℕ) (walk : Walk) (m : MayGoOn code s limit t walk) where
+  below_threads : t < THREADS
+  below_threads = m.1.seats.few t (enabled_started code s limit (place_after code s m.0) t m.2)
 
-pub same_some : (seats : List (Option ThreadView)) (t : ℕ) (old new : ThreadView) → t < length seats → get_or seats t None ≡ Some old → (k : ℕ) → is_some (get_or (set seats t (Some new)) k None) ≡ is_some (get_or seats k None)
+  pub seat_low : t < length walk.threads.seats.items
+  seat_low = omega (arith, below_threads, m.1.seats.count)
+
+  pub sits : (x : Option ThreadView) → x ≡ get_or walk.threads.seats.items t x → SitsAt code s limit t walk x
+  sits x value =
+      let place : Standing = place_after code s m.0 in
+      let is : get_or walk.threads.seats.items t None ≡ x = sym (value ∙ any_default walk.threads.seats.items t x None seat_low) in
+      record {
+        is = is;
+        thread = thread_at code s place.threads place.made place.started t x (subst (IsSeat code s place.threads place.made place.started t) is (m.1.seats.each t below_threads));
+        may = ap (may_turn_at walk.port.port limit) (sym is) ∙ laws.enabled code s limit place walk.port.port walk.threads.seats.items record { words_are = m.1.words; are = m.1.seats } t ∙ m.2;
+      }
+
+  -- it does not matter by which run it is determined who is enabled
+  pub enabled_too : (turns : List Turn) → StandsAt code s turns walk → is_enabled code s limit (place_after code s turns) t ≡ true
+  enabled_too turns stands =
+      sym (laws.enabled code s limit (place_after code s turns) walk.port.port walk.threads.seats.items record { words_are = stands.words; are = stands.seats } t)
+      ∙ laws.enabled code s limit (place_after code s m.0) walk.port.port walk.threads.seats.items record { words_are = m.1.words; are = m.1.seats } t ∙ m.2
+
+same_some : (seats : List (Option ThreadView)) (t : ℕ) (old new : ThreadView) → t < length seats → get_or seats t None ≡ Some old → (k : ℕ) → is_some (get_or (set seats t (Some new)) k None) ≡ is_some (get_or seats k None)
 same_some seats t old new low is k =
     ⊎_elim
     (λ (e : k ≡ t). subst (λ j. is_some (get_or (set seats t (Some new)) j None) ≡ is_some (get_or seats j None)) (sym e)
     (ap is_some (get_or-set_same seats t (Some new) None low) ∙ sym (ap is_some is)))
     (λ (ne : k ≡ t → ⊥). ap is_some (get_or-set_other seats t k (Some new) None ne))
     (cases_eq k t)
+
+pub numbers_stay : (seats : List (Option ThreadView)) (t : ℕ) (old new : ThreadView) → t < length seats → get_or seats t None ≡ Some old → numbers_of (set seats t (Some new)) ≡ numbers_of seats
+numbers_stay seats t old new low is = filter_same (λ k. is_some (get_or (set seats t (Some new)) k None)) (λ k. is_some (get_or seats k None)) (range_with_len 0 THREADS) (same_some seats t old new low is)
+
+-- a walk after one more turn of the run
+pub record Grown (code : Code) (s : Shape) (limit t : ℕ) (turns : List Turn) (old new : Walk) : Type 0 where
+  pub went : WentOn code s t turns new.port.told new
+  pub less : left limit new.threads.seats.items < left limit old.threads.seats.items
 
 module _ (standing : StandingLaws) (laws : TableLaws) (code : Code) (s : Shape) (limit : ℕ) (turns : List Turn) (old new : Walk) (t : ℕ) (few : limit ≤ 100000000)
     (walk : StandsAt code s turns old) (on : is_enabled code s limit (place_after code s turns) t ≡ true) where
@@ -215,8 +239,8 @@ module _ (standing : StandingLaws) (laws : TableLaws) (code : Code) (s : Shape) 
     words : words_now g.words this.event ≡ new.port.port
     words = new_words code s g t was now new.port.port started_g sits_t made
 
-    set_seats : AreSeats code s place.threads place.made g.started seats
-    set_seats = seats_now code s g t was now new.port.port started_g sits_t made old.threads.seats.items walk.seats
+    now_seats : AreSeats code s place.threads place.made g.started seats
+    now_seats = set_seats code s g t was now new.port.port started_g sits_t made old.threads.seats.items walk.seats
 
     may : MayTurn bounds (one_thread code s) g this
     may =
@@ -243,14 +267,14 @@ module _ (standing : StandingLaws) (laws : TableLaws) (code : Code) (s : Shape) 
 
     began : (begins : Option ℕ) → begins ≡ begins_of was.machine.own.stage → Began code s new.port.port begins seats new.threads.seats.items old.started.items new.started.items → Then_
     began None is all = record {
-      seats_are = subst (AreSeats code s place.threads place.made place.started) (sym all.0) (laws.same code s place.threads place.made g.started place.started seats (unstarted (sym is)) set_seats);
+      seats_are = subst (AreSeats code s place.threads place.made place.started) (sym all.0) (laws.same code s place.threads place.made g.started place.started seats (unstarted (sym is)) now_seats);
       numbers = all.1 ∙ walk.numbers
-          ∙ sym (filter_same (λ k. is_some (get_or seats k None)) (λ k. is_some (get_or old.threads.seats.items k None)) (range_with_len 0 THREADS) (same_some old.threads.seats.items t was now low_t at))
+          ∙ sym (numbers_stay old.threads.seats.items t was now low_t at)
           ∙ ap numbers_of (sym all.0);
     }
     began (Some n) is all = record {
       seats_are = laws.same code s place.threads place.made (λ k. is_started bounds new.port.port k || g.started k) place.started new.threads.seats.items same_now
-          (laws.begin code s place.threads place.made g.started new.port.port seats new.threads.seats.items set_seats all.count all.each).0;
+          (laws.begin code s place.threads place.made g.started new.port.port seats new.threads.seats.items now_seats all.count all.each).0;
       numbers = all.numbers;
     }
 
@@ -276,7 +300,7 @@ module _ (standing : StandingLaws) (laws : TableLaws) (code : Code) (s : Shape) 
     -- what is left
     left_begun : (begins : Option ℕ) → Began code s new.port.port begins seats new.threads.seats.items old.started.items new.started.items → left limit new.threads.seats.items ≡ left limit seats
     left_begun None all = ap (left limit) all.0
-    left_begun (Some n) all = (laws.begin code s place.threads place.made g.started new.port.port seats new.threads.seats.items set_seats all.count all.each).1 limit
+    left_begun (Some n) all = (laws.begin code s place.threads place.made g.started new.port.port seats new.threads.seats.items now_seats all.count all.each).1 limit
 
     less_by : (begins : Option ℕ) → Began code s new.port.port begins seats new.threads.seats.items old.started.items new.started.items → left limit new.threads.seats.items < left limit old.threads.seats.items
     less_by begins all =
@@ -289,19 +313,8 @@ module _ (standing : StandingLaws) (laws : TableLaws) (code : Code) (s : Shape) 
         let low : g.made t < limit = lt_true (g.made t) limit left.0 in
         omega (arith, e, f, h, made.made, sits_t.made_is, low)
 
-  pub record Grown : Type 0 where
-    pub went : WentOn code s t turns new.port.told new
-    pub less : left limit new.threads.seats.items < left limit old.threads.seats.items
-
   pub grown : (x y : Option ThreadView) (begins : Option ℕ) → get_or old.threads.seats.items t None ≡ x → MadeTurnAt code s g.words new.port.port x y begins → ToldAt code s x new.port.told → FoundAt code s g.words x new.port.found
-      → Began code s new.port.port begins (set old.threads.seats.items t y) new.threads.seats.items old.started.items new.started.items → Grown
+      → Began code s new.port.port begins (set old.threads.seats.items t y) new.threads.seats.items old.started.items new.started.items → Grown code s limit t turns old new
   grown None y begins at made told found all = absurd made
   grown (Some was) None begins at made told found all = absurd made
   grown (Some was) (Some now) begins at made told found all = record { went = went_by was now at made.0 begins made.1 all told found; less = less_by was now at made.0 begins all }
-
--- it does not matter by which run it is determined who is enabled
-pub enabled_too : (laws : TableLaws) (code : Code) (s : Shape) (limit : ℕ) (one other : List Turn) (walk : Walk) (t : ℕ) → StandsAt code s one walk → StandsAt code s other walk
-    → is_enabled code s limit (place_after code s one) t ≡ true → is_enabled code s limit (place_after code s other) t ≡ true
-enabled_too laws code s limit one other walk t a b on =
-    sym (laws.enabled code s limit (place_after code s other) walk.port.port walk.threads.seats.items record { words_are = b.words; are = b.seats } t)
-    ∙ laws.enabled code s limit (place_after code s one) walk.port.port walk.threads.seats.items record { words_are = a.words; are = a.seats } t ∙ on

@@ -1,5 +1,5 @@
 -- One turn of an enabled thread is an event.
-use Rattle.sharc_seq.proofs.Imports.{◌≡◌, ℕ, suc, ◌+◌, true, false, List, [], ◌∷◌, length, refl, sym, ap, ◌∙◌, subst, arith, PortState, Leads, LeadsInWords, place_of_words, Code, Shape, TurnState, Runs, Tries, Machine, Turn, Local, Asks, turn, after, events_of_turn, TurnLeads, may_go, counted, machine_after, events_of_path, ThreadLaws, found_now, behind, waits_now, ThreadView, GoesWhere}
+use Rattle.sharc_seq.proofs.Imports.{◌≡◌, ℕ, suc, ◌+◌, true, false, List, [], ◌∷◌, length, refl, sym, ap, ◌∙◌, subst, arith, PortState, Leads, LeadsInWords, place_of_words, Code, Shape, TurnState, Tries, Machine, Turn, Local, Asks, turn, after, events_of_turn, TurnLeads, may_go, counted, machine_after, events_of_path, ThreadLaws, found_now, behind, waits_now, ThreadView, GoesWhere}
 
 -- ---- one turn
 turn_led : (t : ℕ) (a : Turn) (found : ℕ) (from until : PortState) → Leads LeadsInWords from (events_of_turn t a found) until → TurnLeads LeadsInWords t a found from until
@@ -12,10 +12,8 @@ as_behind t (Local m) found words now h = refl
 as_behind t (Asks step go) found words now h = ap go h.may_follow.result_is
 
 no_try : (state : TurnState) → (state ≡ Tries → ⊥) → counted state ≡ 1
-no_try TurnState.Ended ne = refl
-no_try TurnState.Stopped ne = refl
-no_try TurnState.Runs ne = refl
 no_try TurnState.Tries ne = absurd (ne refl)
+no_try _ ne = refl
 
 -- ---- the turn of a thread that is enabled
 pub record OneTurn (code : Code) (s : Shape) (words now : List ℕ) (old new : ThreadView) : Type 0 where

@@ -1,5 +1,5 @@
 -- All codes of one program are alike: its flat code is laid out in any order of its texts.
-use Rattle.sharc_sound_laws.proofs.{Imports.{◌≡◌, ℕ, zero, suc, List, [], ◌∷◌, map, get_or, Option, Some, None, refl, sym, ap, ◌∙◌, subst, Code, Function, SourcePlace, Text, Instr, Call, Start, Exit, no_function, no_place, Resolution, functions_in, OneFunctionOfName, Assignment, flattened, names_of, with_texts, spot_in, lock_text_of, lies_at, AreTextsIn, AreLaid, AreNamed, globals_of, Op, Spot, Flat, flat_of, instr_of, source_of, entered_at, place, expanded, dropped, IsCompiled, unnamed, IsSamePlace, CompiledAreAlike}, Lists.{ap2, map_same, element_of}, Lines.{place_same, statements_same}}
+use Rattle.sharc_sound_laws.proofs.{Imports.{◌≡◌, ℕ, zero, suc, List, [], ◌∷◌, map, get_or, Option, Some, None, refl, sym, ap, ◌∙◌, subst, Code, Function, SourcePlace, Text, Instr, no_function, no_place, Resolution, functions_in, OneFunctionOfName, Assignment, flattened, names_of, with_texts, spot_in, lock_text_of, lies_at, AreTextsIn, AreLaid, AreNamed, globals_of, Op, Spot, Flat, flat_of, instr_of, source_of, entered_at, place, expanded, dropped, IsCompiled, unnamed, IsSamePlace, CompiledAreAlike}, Lists.{ap2, map_same, element_of}, Lines.{place_same, statements_same}}
 use Rattle.sharc_flat.specs.Laid.{words_of}
 
 -- ---- functions
@@ -11,7 +11,7 @@ entered_same bytes pl ql same (x ∷ xs) (n ∷ ns) (y ∷ ys) named = ap2 (λ z
 entered_same bytes pl ql same _ _ _ named = absurd named
 
 instr_same : (fs gs : List Function) → map unnamed fs ≡ map unnamed gs → (i : Instr) → instr_of fs i ≡ instr_of gs i
-instr_same fs gs same (Call f ints refs site) = ap (λ (g : Function). Call g.entry ints refs site) (element_of unnamed fs gs f no_function same)
+instr_same fs gs same (Instr.Call f ints refs site) = ap (λ (g : Function). Instr.Call g.entry ints refs site) (element_of unnamed fs gs f no_function same)
 instr_same fs gs same i = refl
 
 -- ---- sites
@@ -100,7 +100,7 @@ module _ (m : Assignment) where
   functions = map (entered_at ends) told.functions
 
   abbrev statements : List Instr
-  statements = Start 0 ∷ Exit ∷ expanded ends (dropped told) 0 told.lines
+  statements = Instr.Start 0 ∷ Instr.Exit ∷ expanded ends (dropped told) 0 told.lines
 
   record IsCanonical (code : Code) : Type 0 where
     made : List Op
@@ -122,7 +122,7 @@ module _ (m : Assignment) where
         made = flat.lines;
         laid = subst (λ bytes. AreLaid m.typed bytes told.lines flat.lines) (sym texts) lays.lines;
         instrs = is.coded.generated.instrs ∙ map_same (instr_of is.coded.g.functions.items) (instr_of functions) (instr_same is.coded.g.functions.items functions same) is.coded.g.statements.items
-            ∙ ap (map (instr_of functions)) (is.coded.made.statements ∙ ap (λ z. Start 0 ∷ Exit ∷ z) (statements_same m.typed bytes told flat lays.lines names lays.functions));
+            ∙ ap (map (instr_of functions)) (is.coded.made.statements ∙ ap (λ z. Instr.Start 0 ∷ Instr.Exit ∷ z) (statements_same m.typed bytes told flat lays.lines names lays.functions));
         functions_are = ap (λ v. map unnamed v.items) is.coded.generated.functions ∙ same;
         sites = ap (λ v. v.items) is.coded.generated.sites ∙ is.coded.made.sites;
       }

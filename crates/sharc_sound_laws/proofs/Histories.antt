@@ -1,5 +1,5 @@
 -- The runs of codes that are alike tell the same source events.
-use Rattle.sharc_sound_laws.proofs.{Imports.{◌≡◌, ℕ, zero, suc, ◌==◌, ◌||◌, ◌+◌, ◌-◌, ◌*◌, List, [], ◌∷◌, map, get_or, Option, Some, None, if◌then◌else◌, refl, sym, ap, ◌∙◌, ℤ, pos, Site, Act, CellAt, CellMode, SourceEvent, Object, Taken, lowest_of, waits_in, NewView, NewStage, Length, Code, Function, GlobalCells, PlaceMode, LockedGlobal, Use, Cell, GlobalAt, Instr, Load, Store, LoadRef, Exchange, New, TakeCell, TakeLocal, Give, Free, Lock, Unlock, Spawn, Join, Print, Start, Exit, CondEnter, CondWait, CondSignal, CondBroadcast, Register, Shape, Stage, Makes, Uncounts, Begins, Enters, Withdraws, WithdrawsFrom, Leaves, Wakes, int_of, word_of, Machine, instr_at, int, ref, Said, Turn, result_of, with_told, access, cell_at, elements_in, event, event_at, global_cell, in_exit, in_free, in_new, in_signal, in_spawn, in_start, kind_of, made_cell, mode_of, new_event, no_global, nobody, own_event, place_at, reference, said, speaks_of, started_with, take_local, variable_of, Erase, place_after, AreAlike, HistoriesAreAlike}, Lists.ap2, Places.{checked_same, chosen_same, enabled_same, place_same}, Turns.{by_function, instr_same}}
+use Rattle.sharc_sound_laws.proofs.{Imports.{◌≡◌, ℕ, zero, suc, ◌==◌, ◌||◌, ◌+◌, ◌-◌, ◌*◌, List, [], ◌∷◌, map, get_or, Option, Some, None, if◌then◌else◌, refl, sym, ap, ◌∙◌, ℤ, pos, Site, Act, CellAt, CellMode, SourceEvent, Object, Taken, lowest_of, waits_in, NewView, NewStage, Length, Code, Function, GlobalCells, PlaceMode, LockedGlobal, Use, Cell, GlobalAt, Instr, Register, Shape, Stage, Makes, Uncounts, Begins, Enters, Withdraws, WithdrawsFrom, Leaves, Wakes, int_of, word_of, Machine, instr_at, int, ref, Said, Turn, result_of, with_told, access, cell_at, elements_in, event, event_at, global_cell, in_exit, in_free, in_new, in_signal, in_spawn, in_start, kind_of, made_cell, mode_of, new_event, no_global, nobody, own_event, place_at, reference, said, speaks_of, started_with, take_local, variable_of, Erase, place_after, AreAlike, HistoriesAreAlike}, Lists.ap2, Places.{checked_same, chosen_same, enabled_same, place_same}, Turns.{by_function, instr_same}}
 use Rattle.sharc_code.specs.declared.instr.Cell.TheVariants.{Global}
 
 module _ (a b : Code) (alike : AreAlike a b) where
@@ -83,26 +83,26 @@ module _ (a b : Code) (alike : AreAlike a b) where
     signal_same c site found _ = nobody_same c site found
 
     said_same : (i : Instr) (found elements : ℕ) → said a i m found elements ≡ said b i m found elements
-    said_same (Load r c site) found elements = access_same site c (int_of found) Act.Read Act.Read (λ x y. refl)
-    said_same (Store r c site) found elements = access_same site c (pos 0) (λ at mode. Act.Write at mode (int m r)) (λ at mode. Act.Write at mode (int m r)) (λ x y. refl)
-    said_same (LoadRef c site) found elements = access_same site c (reference found elements) Act.Read Act.Read (λ x y. refl)
-    said_same (Exchange r c site) found elements = access_same site c (pos 0) (λ at mode. Act.Write at mode (reference (ref m r) elements)) (λ at mode. Act.Write at mode (reference (ref m r) elements)) (λ x y. refl)
-    said_same (TakeCell r c site) found elements = access_same site c (reference found elements) (λ at mode. Act.Take (Taken.Cell at mode) (kind_of (place_at a site).at)) (λ at mode. Act.Take (Taken.Cell at mode) (kind_of (place_at b site).at)) (λ x y. ap (λ (u : Use). Act.Take (Taken.Cell x y) (kind_of u)) (use_same site))
-    said_same (TakeLocal r from site) found elements = take_same site (ref m from) elements
-    said_same (Give r site) found elements = of_mode site (pos 0) (Act.Give (reference (ref m r) elements))
-    said_same (New r count cells site) found elements = made_same site cells m.own.stage
-    said_same (Free r layout site) found elements = free_same r site elements m.own.stage
-    said_same (Lock c site) found elements = ap (λ (e : Option SourceEvent). if found == 0 then e else None) (of_cell site c (pos 0) Act.Lock)
-    said_same (Unlock r c site) found elements = of_cell site c (pos 0) Act.Unlock
-    said_same (Spawn r function from site) found elements = spawn_same function from site elements m.own.stage
-    said_same (Join r site) found elements = ap (λ (e : Option SourceEvent). if found == 0 || (found == 1 || found == 2) then None else e) (event_same site (pos 0) _ _ refl)
-    said_same (Print r site) found elements = event_same site (pos 0) _ _ refl
-    said_same (Start site) found elements = start_same found elements m.own.stage
-    said_same Exit found elements = exit_same m.own.stage
-    said_same (CondEnter c site) found elements = of_cell site c (pos 0) Act.Enter
-    said_same (CondWait c site) found elements = ap (λ (e : Option SourceEvent). if waits_in found m.own.number then None else e) (of_cell site c (pos 0) Act.Woken)
-    said_same (CondSignal c site) found elements = signal_same c site found m.own.stage
-    said_same (CondBroadcast c site) found elements = of_cell site c (pos 0) Act.Broadcast
+    said_same (Instr.Load r c site) found elements = access_same site c (int_of found) Act.Read Act.Read (λ x y. refl)
+    said_same (Instr.Store r c site) found elements = access_same site c (pos 0) (λ at mode. Act.Write at mode (int m r)) (λ at mode. Act.Write at mode (int m r)) (λ x y. refl)
+    said_same (Instr.LoadRef c site) found elements = access_same site c (reference found elements) Act.Read Act.Read (λ x y. refl)
+    said_same (Instr.Exchange r c site) found elements = access_same site c (pos 0) (λ at mode. Act.Write at mode (reference (ref m r) elements)) (λ at mode. Act.Write at mode (reference (ref m r) elements)) (λ x y. refl)
+    said_same (Instr.TakeCell r c site) found elements = access_same site c (reference found elements) (λ at mode. Act.Take (Taken.Cell at mode) (kind_of (place_at a site).at)) (λ at mode. Act.Take (Taken.Cell at mode) (kind_of (place_at b site).at)) (λ x y. ap (λ (u : Use). Act.Take (Taken.Cell x y) (kind_of u)) (use_same site))
+    said_same (Instr.TakeLocal r from site) found elements = take_same site (ref m from) elements
+    said_same (Instr.Give r site) found elements = of_mode site (pos 0) (Act.Give (reference (ref m r) elements))
+    said_same (Instr.New r count cells site) found elements = made_same site cells m.own.stage
+    said_same (Instr.Free r layout site) found elements = free_same r site elements m.own.stage
+    said_same (Instr.Lock c site) found elements = ap (λ (e : Option SourceEvent). if found == 0 then e else None) (of_cell site c (pos 0) Act.Lock)
+    said_same (Instr.Unlock r c site) found elements = of_cell site c (pos 0) Act.Unlock
+    said_same (Instr.Spawn r function from site) found elements = spawn_same function from site elements m.own.stage
+    said_same (Instr.Join r site) found elements = ap (λ (e : Option SourceEvent). if found == 0 || (found == 1 || found == 2) then None else e) (event_same site (pos 0) _ _ refl)
+    said_same (Instr.Print r site) found elements = event_same site (pos 0) _ _ refl
+    said_same (Instr.Start site) found elements = start_same found elements m.own.stage
+    said_same Instr.Exit found elements = exit_same m.own.stage
+    said_same (Instr.CondEnter c site) found elements = of_cell site c (pos 0) Act.Enter
+    said_same (Instr.CondWait c site) found elements = ap (λ (e : Option SourceEvent). if waits_in found m.own.number then None else e) (of_cell site c (pos 0) Act.Woken)
+    said_same (Instr.CondSignal c site) found elements = signal_same c site found m.own.stage
+    said_same (Instr.CondBroadcast c site) found elements = of_cell site c (pos 0) Act.Broadcast
     said_same _ found elements = refl
 
   -- ---- runs

@@ -12,7 +12,7 @@ pub use Rattle.sharc_word.specs.{Words.words_after, declared.step.TheConstants.T
 pub use Rattle.sharc_heap.specs.{Accesses.{note_of, site_at}, Notes.{blank, of_kind}, ShadowWord.is_written, State.NewView, declared.shadow_word.Kind.Kind, declared.shadow_word.Kind.TheVariants.{Read, Write}, declared.stage.NewStage.NewStage, declared.stage.NewStage.TheVariants.Length}
 unfoldable pub use Rattle.sharc_heap.specs.{Functions.{lowest_from, lowest_other}, ShadowWord.stands}
 pub use Rattle.sharc_locks.specs.Waiters.{lowest_of, waits_in}
-pub use Rattle.sharc_code.specs.{Arithmetic.{int_of, word_of}, Laws.RunLaws, Layout.{Fits, cell_of, cell_word, function_word, granules, next_thread_word, state_word, top_word, words_of}, Machine.{Machine, act, at_stage, back_to, called, entered, field_of, fields, free, function_of, goes_to, holds_none, instr_at, int, layout_at, no_frame, no_function, no_layout, pointer_cell, ref, returned, start, step_of, trapped, with_parameter}, Opening.{first_global, first_heap, opening_words, opens_with}, Path.{CodePath, IsPath, after, asked_by, begun, counted, machine_after, made_in, may_go, most_ints, most_refs, turn}, Ranges.IsInGlobal, Runs.{Bounds, CheckedRunOf, Global, IsNext, IsRun, OneThread, Said, Turn, after_turn, at, is_started, made_now, opening_of, put, result_of, state_after, state_now, told_by, turns_of, was_started, with_told, word_events, words_now}, Says.{access, cell_at, elements_in, event, event_at, global_cell, in_exit, in_free, in_new, in_signal, in_spawn, in_start, kind_of, made_cell, mode_of, new_event, no_global, no_place, nobody, own_event, place_at, reference, said, speaks_of, started_with, take_local, variable_of}, Waits.{asks_for, held_up, is_held_up, wait_of, waits_now}, Whole.{CheckedRun, Erase, IsOn, IsStuck, Stuck, Waits, bounds, one_thread, place_after}, declared.code.Code.Code, declared.code.Function.Function, declared.code.GlobalCells.GlobalCells, declared.code.Layout.Layout, declared.code.PlaceMode.PlaceMode, declared.code.PlaceMode.TheVariants.{Dynamic, LockedGlobal}, declared.code.SourcePlace.SourcePlace, declared.code.Text.Text, declared.code.Use.Use, declared.instr.Cell.Cell, declared.instr.Cell.TheVariants.GlobalAt, declared.instr.Instr.Instr, declared.instr.Instr.TheVariants.{Call, ChkLock, ChkLockLoaded, ChkRead, ChkWrite, CondBroadcast, CondEnter, CondSignal, CondWait, Exchange, Exit, Free, Give, Join, Jump, JumpIfNull, JumpIfZero, Load, LoadRef, Lock, New, Print, Return, Spawn, Start, Store, TakeCell, TakeLocal, TestSole, Unlock}, declared.instr.Register.Register, declared.shape.Shape.Shape, declared.state.ConflictAt.ConflictAt, declared.state.Stage.Stage, declared.state.Stage.TheVariants.{Begins, Empties, Enters, Leaves, Makes, Rests, Uncounts, Wakes, Withdraws, WithdrawsFrom}, declared.state.Stop.Stop, declared.state.Stop.TheVariants.{Conflict, NoLock, NotSole, Trap}, declared.state.TheConstants.FRAMES, declared.state.TurnState.TurnState, declared.state.TurnState.TheVariants.{Ended, Runs, Stopped}, declared.state.Wait.Wait, declared.state.Wait.TheVariants.{Cond, Mutex}}
+pub use Rattle.sharc_code.specs.{Arithmetic.{int_of, word_of}, Laws.RunLaws, Layout.{Fits, cell_of, cell_word, function_word, granules, next_thread_word, state_word, top_word, words_of}, Machine.{Machine, act, at_stage, back_to, called, entered, field_of, fields, free, function_of, goes_to, holds_none, instr_at, int, layout_at, no_frame, no_function, no_layout, pointer_cell, ref, returned, start, step_of, trapped, with_parameter}, Opening.{first_global, first_heap, opening_words, opens_with}, Path.{CodePath, IsPath, after, asked_by, begun, counted, machine_after, made_in, may_go, most_ints, most_refs, turn}, Ranges.IsInGlobal, Runs.{Bounds, CheckedRunOf, Global, IsNext, IsRun, OneThread, Said, Turn, after_turn, at, is_started, made_now, opening_of, put, result_of, state_after, state_now, told_by, turns_of, was_started, with_told, word_events, words_now}, Says.{access, cell_at, elements_in, event, event_at, global_cell, in_exit, in_free, in_new, in_signal, in_spawn, in_start, kind_of, made_cell, mode_of, new_event, no_global, no_place, nobody, own_event, place_at, reference, said, speaks_of, started_with, take_local, variable_of}, Waits.{asks_for, held_up, is_held_up, wait_of, waits_now}, Whole.{CheckedRun, Erase, IsOn, IsStuck, Stuck, Waits, bounds, one_thread, place_after}, declared.code.Code.Code, declared.code.Function.Function, declared.code.GlobalCells.GlobalCells, declared.code.Layout.Layout, declared.code.PlaceMode.PlaceMode, declared.code.PlaceMode.TheVariants.{Dynamic, LockedGlobal}, declared.code.SourcePlace.SourcePlace, declared.code.Text.Text, declared.code.Use.Use, declared.instr.Cell.Cell, declared.instr.Cell.TheVariants.GlobalAt, declared.instr.Instr.Instr, declared.instr.Register.Register, declared.shape.Shape.Shape, declared.state.ConflictAt.ConflictAt, declared.state.Stage.Stage, declared.state.Stage.TheVariants.{Begins, Empties, Enters, Leaves, Makes, Rests, Uncounts, Wakes, Withdraws, WithdrawsFrom}, declared.state.Stop.Stop, declared.state.Stop.TheVariants.{Conflict, NoLock, NotSole, Trap}, declared.state.TheConstants.FRAMES, declared.state.TurnState.TurnState, declared.state.TurnState.TheVariants.{Ended, Runs, Stopped}, declared.state.Wait.Wait, declared.state.Wait.TheVariants.{Cond, Mutex}}
 pub use Rattle.sharc_cpu.specs.Thread.{IsThread, ThreadView}
 pub use Rattle.sharc_threads.specs.Ends.{AreStarted, IsAt, Standing, is_enabled}
 pub use Rattle.sharc_seq.specs.Run.{AreChosen, IsChosen}

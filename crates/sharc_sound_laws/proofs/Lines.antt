@@ -1,5 +1,5 @@
 -- Nothing that guarding looks at of an operation is a text.
-use Rattle.sharc_sound_laws.proofs.{Imports.{◌≡◌, ℕ, zero, suc, ◌+◌, ◌||◌, ◌==◌, Bool, true, false, cond, List, [], ◌∷◌, ◌++◌, length, slice_get, Option, Some, refl, ap, ◌∙◌, Function, Text, Instr, PlaceMode, Dynamic, Jump, JumpIfZero, JumpIfNull, ChkRead, ChkWrite, Resolution, with_texts, AreLaid, AreNamed, Op, Spot, Flat, check_under, head, body, own, tail, expand, width, offset, place, expanded, leads_to, line_leads, is_led_to, is_entry, is_target, Know, nothing, know_after, known, drops, drops_at, dropped}, Lists.ap2}
+use Rattle.sharc_sound_laws.proofs.{Imports.{◌≡◌, ℕ, zero, suc, ◌+◌, ◌||◌, ◌==◌, Bool, true, false, cond, List, [], ◌∷◌, ◌++◌, length, slice_get, Option, Some, refl, ap, ◌∙◌, Function, Text, Instr, PlaceMode, Dynamic, Resolution, with_texts, AreLaid, AreNamed, Op, Spot, Flat, check_under, head, body, own, tail, expand, width, offset, place, expanded, leads_to, line_leads, is_led_to, is_entry, is_target, Know, nothing, know_after, known, drops, drops_at, dropped}, Lists.ap2}
 use Rattle.sharc_flat.specs.Laid.{told_by}
 
 -- ---- one operation
@@ -14,11 +14,11 @@ checked_told : (pl : ℕ → ℕ) (n : ℕ) (o : Op) (x y : Text) (d : Bool) (i 
 checked_told pl n o x y d i spot = ap (λ is. is ++ own (body pl n o) ++ tail o) (check_told x y d i spot n spot.mode)
 
 expand_told : (pl : ℕ → ℕ) (d : Bool) (n : ℕ) (x y : Text) (o : Op) → expand pl d n (with_texts x y o) ≡ expand pl d n o
-expand_told pl d n x y (Op.Load i cell spot) = checked_told pl n (Op.Load i cell spot) x y d (ChkRead cell n) spot
-expand_told pl d n x y (Op.Store i cell spot) = checked_told pl n (Op.Store i cell spot) x y d (ChkWrite cell n) spot
-expand_told pl d n x y (Op.LoadRef r cell spot) = checked_told pl n (Op.LoadRef r cell spot) x y false (ChkRead cell n) spot
-expand_told pl d n x y (Op.StoreRef r cell spot) = checked_told pl n (Op.StoreRef r cell spot) x y false (ChkWrite cell n) spot
-expand_told pl d n x y (Op.TakeCell r cell spot) = checked_told pl n (Op.TakeCell r cell spot) x y false (ChkWrite cell n) spot
+expand_told pl d n x y (Op.Load i cell spot) = checked_told pl n (Op.Load i cell spot) x y d (Instr.ChkRead cell n) spot
+expand_told pl d n x y (Op.Store i cell spot) = checked_told pl n (Op.Store i cell spot) x y d (Instr.ChkWrite cell n) spot
+expand_told pl d n x y (Op.LoadRef r cell spot) = checked_told pl n (Op.LoadRef r cell spot) x y false (Instr.ChkRead cell n) spot
+expand_told pl d n x y (Op.StoreRef r cell spot) = checked_told pl n (Op.StoreRef r cell spot) x y false (Instr.ChkWrite cell n) spot
+expand_told pl d n x y (Op.TakeCell r cell spot) = checked_told pl n (Op.TakeCell r cell spot) x y false (Instr.ChkWrite cell n) spot
 expand_told pl d n x y o = refl
 
 leads_told : (n to : ℕ) (x y : Text) (o : Op) → leads_to n (with_texts x y o) to ≡ leads_to n o to
@@ -35,10 +35,10 @@ drops_told k x y o = refl
 
 -- where other lines go the same way
 body_same : (pl ql : ℕ → ℕ) → ((n : ℕ) → pl n ≡ ql n) → (n : ℕ) (o : Op) → body pl n o ≡ body ql n o
-body_same pl ql same n (Op.Skip k) = ap (λ p. Some (Jump p)) (same (n + 1 + k))
-body_same pl ql same n (Op.SkipIfZero i k) = ap (λ p. Some (JumpIfZero i p)) (same (n + 1 + k))
-body_same pl ql same n (Op.SkipIfNull r k) = ap (λ p. Some (JumpIfNull r p)) (same (n + 1 + k))
-body_same pl ql same n (Op.Jump to) = ap (λ p. Some (Jump p)) (same to)
+body_same pl ql same n (Op.Skip k) = ap (λ p. Some (Instr.Jump p)) (same (n + 1 + k))
+body_same pl ql same n (Op.SkipIfZero i k) = ap (λ p. Some (Instr.JumpIfZero i p)) (same (n + 1 + k))
+body_same pl ql same n (Op.SkipIfNull r k) = ap (λ p. Some (Instr.JumpIfNull r p)) (same (n + 1 + k))
+body_same pl ql same n (Op.Jump to) = ap (λ p. Some (Instr.Jump p)) (same to)
 body_same pl ql same n o = refl
 
 expand_same : (pl ql : ℕ → ℕ) → ((n : ℕ) → pl n ≡ ql n) → (d e : Bool) → d ≡ e → (n : ℕ) (o : Op) → expand pl d n o ≡ expand ql e n o

@@ -1,5 +1,5 @@
 -- What a thread that was stopped by a report wants.
-use Rattle.sharc_sound_laws.proofs.{Imports.{◌≡◌, ℕ, ◌⊎◌, ⊎_elim, List, [], ◌∷◌, ◌++◌, reverse, Some, None, Option, refl, sym, ap, ◌∙◌, subst, reverse-append, filter-append, SourceEvent, Assignment, events_of, is_of, History, Code, Instr, Start, TestSole, Shape, Stopped, Stop, Conflict, NoLock, NotSole, Trap, RunLaws, Fits, opening_words, instr_at, IsRun, Said, Turn, opening_of, told_by, with_told, CheckedRun, Erase, bounds, one_thread, place_after, told_in, IsReport, Targets, Labels, IsWellTyped, IsSmall, NamesAreCauses, ReportsHaveNamed, AccessReportsShow, site_of_check, ChecksAreFollowed, LockReportsShowAccess, history_of, CastReportsShow, IsLockCheck, IsNotThere, IsReportOf, WantsReported, IsPlaced}, Standing.from_first}
+use Rattle.sharc_sound_laws.proofs.{Imports.{◌≡◌, ℕ, ◌⊎◌, ⊎_elim, List, [], ◌∷◌, ◌++◌, reverse, Some, None, Option, refl, sym, ap, ◌∙◌, subst, reverse-append, filter-append, SourceEvent, Assignment, events_of, is_of, History, Code, Instr, Shape, Stopped, Stop, Conflict, NoLock, NotSole, Trap, RunLaws, Fits, opening_words, instr_at, IsRun, Said, Turn, opening_of, told_by, with_told, CheckedRun, Erase, bounds, one_thread, place_after, told_in, IsReport, Targets, Labels, IsWellTyped, IsSmall, NamesAreCauses, ReportsHaveNamed, AccessReportsShow, site_of_check, ChecksAreFollowed, LockReportsShowAccess, history_of, CastReportsShow, IsLockCheck, IsNotThere, IsReportOf, WantsReported, IsPlaced}, Standing.from_first}
 
 -- ---- histories that grow
 front_empty : (xs ys : History) → xs ++ ys ≡ [] → xs ≡ []
@@ -19,7 +19,7 @@ module _ (code : Code) (s : Shape) (t : ℕ) where
       none_before later earlier
       (told_less t one.thread (told_by (one_thread code s) (Erase code s (later ++ earlier)) (place_after code s (later ++ earlier)) one) (Erase code s (later ++ earlier)) q)
 
-module _ (m : Assignment) (code : Code) (starts : instr_at code 0 ≡ Start 0) (s : Shape)
+module _ (m : Assignment) (code : Code) (starts : instr_at code 0 ≡ Instr.Start 0) (s : Shape)
     (placed : (run : List Turn) → CheckedRun code s run → (t : ℕ) → IsNotThere (history_of code s run) t ((place_after code s run).threads t) ⊎ IsPlaced m code (history_of code s run) t ((place_after code s run).threads t))
     (run : List Turn) (checked : CheckedRun code s run) (t : ℕ) (stop : Stop) (stopped : ((place_after code s run).threads t).at.state ≡ Stopped) (is : ((place_after code s run).threads t).own.stop ≡ Some stop) (report : IsReport stop) where
   abbrev IsFirst : Type 0
@@ -27,7 +27,7 @@ module _ (m : Assignment) (code : Code) (starts : instr_at code 0 ≡ Start 0) (
 
   -- a thread that was at another instruction has made an event
   pub not_first : (later : List Turn) (one : Turn) (earlier : List Turn) → run ≡ later ++ one ∷ earlier → CheckedRun code s earlier
-      → (instr_at code ((place_after code s earlier).threads t).at.pc ≡ Start 0 → ⊥) → IsNotThere (history_of code s run) t ((place_after code s run).threads t) → ⊥
+      → (instr_at code ((place_after code s earlier).threads t).at.pc ≡ Instr.Start 0 → ⊥) → IsNotThere (history_of code s run) t ((place_after code s run).threads t) → ⊥
   not_first later one earlier parts before other n = ⊎_elim
       (λ (k : IsNotThere (history_of code s earlier) t ((place_after code s earlier).threads t)). other (ap (instr_at code) k.first ∙ starts))
       (λ (p : IsPlaced m code (history_of code s earlier) t ((place_after code s earlier).threads t)).
@@ -50,7 +50,7 @@ module _ (m : Assignment) (code : Code) (starts : instr_at code 0 ≡ Start 0) (
 
 -- ---- by the kind of the report
 module _ (laws : RunLaws) (named : NamesAreCauses) (some : ReportsHaveNamed) (accesses : AccessReportsShow) (locks : LockReportsShowAccess) (casts : CastReportsShow) (m : Assignment) (x : Targets) (code : Code) (s : Shape) (ls : Labels)
-    (wt : IsWellTyped x code ls) (fits : Fits code s) (few : IsSmall code s) (follows : ChecksAreFollowed code) (starts : instr_at code 0 ≡ Start 0)
+    (wt : IsWellTyped x code ls) (fits : Fits code s) (few : IsSmall code s) (follows : ChecksAreFollowed code) (starts : instr_at code 0 ≡ Instr.Start 0)
     (placed : (run : List Turn) → CheckedRun code s run → (t : ℕ) → IsNotThere (history_of code s run) t ((place_after code s run).threads t) ⊎ IsPlaced m code (history_of code s run) t ((place_after code s run).threads t))
     (run : List Turn) (checked : CheckedRun code s run) (t : ℕ) where
   -- what comes before in a checked run is one
@@ -60,11 +60,11 @@ module _ (laws : RunLaws) (named : NamesAreCauses) (some : ReportsHaveNamed) (ac
       let all : IsRun bounds (one_thread code s) from (later ++ one ∷ earlier) = subst (IsRun bounds (one_thread code s) from) parts ((laws.checked code s run).0 checked) in
       (laws.checked code s earlier).1 ((laws.join bounds code s from later (one ∷ earlier)).0 all).0.0
 
-  no_check : (site : ℕ) (i : Instr) → site_of_check i ≡ Some site → i ≡ Start 0 → ⊥
+  no_check : (site : ℕ) (i : Instr) → site_of_check i ≡ Some site → i ≡ Instr.Start 0 → ⊥
   no_check site i is z = let q : None ≡ Some site = ap site_of_check (sym z) ∙ is in cc
 
-  no_test : (register site : ℕ) (i : Instr) → i ≡ TestSole register site → i ≡ Start 0 → ⊥
-  no_test register site i is z = let q : TestSole register site ≡ Start 0 = sym is ∙ z in cc
+  no_test : (register site : ℕ) (i : Instr) → i ≡ Instr.TestSole register site → i ≡ Instr.Start 0 → ⊥
+  no_test register site i is z = let q : Instr.TestSole register site ≡ Instr.Start 0 = sym is ∙ z in cc
 
   pub reported : (stop : Stop) → ((place_after code s run).threads t).at.state ≡ Stopped → ((place_after code s run).threads t).own.stop ≡ Some stop → IsReport stop → IsReportOf m x code s ls run t stop
   reported (Conflict c) stopped is report =

@@ -1,5 +1,5 @@
 -- The turns of one machine by codes that are alike, and its path.
-use Rattle.sharc_sound_laws.proofs.{Imports.{◌≡◌, ℕ, ◌*◌, ◌+◌, ◌-◌, ◌/◌, ◌%◌, ◌&&◌, ◌==◌, not, pos, max, true, cond, List, [], ◌∷◌, length, get_or, replicate, nat_lt, nat_le, slice_index, ℤ, Some, None, refl, sym, ap, ◌∙◌, subst, range_with_len, WordOp, Code, Function, Layout, Instr, Return, Free, Start, Exit, Shape, Stage, Rests, Empties, Enters, Runs, FRAMES, granules, words_of, cell_word, cell_of, function_word, top_word, next_thread_word, state_word, Machine, act, instr_at, step_of, returned, goes_to, holds_none, trapped, back_to, no_frame, free, pointer_cell, fields, field_of, layout_at, no_layout, ref, start, entered, called, with_parameter, function_of, no_function, at_stage, first_global, first_heap, opening_words, opens_with, most_ints, most_refs, begun, turn, after, asked_by, may_go, counted, machine_after, IsPath, CodePath, made_in, asks_for, wait_of, blank, unnamed, AreAlike}, Lists.{ap2, map_same, length_of, element_of, fold_same}}
+use Rattle.sharc_sound_laws.proofs.{Imports.{◌≡◌, ℕ, ◌*◌, ◌+◌, ◌-◌, ◌/◌, ◌%◌, ◌&&◌, ◌==◌, not, pos, max, true, cond, List, [], ◌∷◌, length, get_or, replicate, nat_lt, nat_le, slice_index, ℤ, Some, None, refl, sym, ap, ◌∙◌, subst, range_with_len, WordOp, Code, Function, Layout, Instr, Shape, Stage, Rests, Empties, Enters, Runs, FRAMES, granules, words_of, cell_word, cell_of, function_word, top_word, next_thread_word, state_word, Machine, act, instr_at, step_of, returned, goes_to, holds_none, trapped, back_to, no_frame, free, pointer_cell, fields, field_of, layout_at, no_layout, ref, start, entered, called, with_parameter, function_of, no_function, at_stage, first_global, first_heap, opening_words, opens_with, most_ints, most_refs, begun, turn, after, asked_by, may_go, counted, machine_after, IsPath, CodePath, made_in, asks_for, wait_of, blank, unnamed, AreAlike}, Lists.{ap2, map_same, length_of, element_of, fold_same}}
 use Rattle.sharc_tree.specs.declared.trap.Trap.{Trap}
 use Rattle.sharc_code.specs.{Layout.function_at, Machine.Turn}
 
@@ -41,14 +41,14 @@ module _ (a b : Code) (alike : AreAlike a b) where
     start_same m site stage = record { asked = refl; leads = λ found. ap (λ n. at_stage m (Enters n)) (function_at_same found) }
 
     act_same : (i : Instr) (m : Machine) → IsSameTurn (act a s i m) (act b s i m)
-    act_same (Return site) m = record { asked = refl; leads = λ found. returned_same m site }
-    act_same (Free r layout site) m = subst (λ l. IsSameTurn (free a s m r (layout_at a layout) m.own.stage) (free b s m r l m.own.stage))
+    act_same (Instr.Return site) m = record { asked = refl; leads = λ found. returned_same m site }
+    act_same (Instr.Free r layout site) m = subst (λ l. IsSameTurn (free a s m r (layout_at a layout) m.own.stage) (free b s m r l m.own.stage))
         (ap (λ (ls : List Layout). get_or ls layout no_layout) alike.layouts) (free_same m r (layout_at a layout) m.own.stage)
-    act_same (Start site) m = start_same m site m.own.stage
+    act_same (Instr.Start site) m = start_same m site m.own.stage
     act_same i m = itself (act a s i m)
 
     pub instr_same : (pc : ℕ) → instr_at a pc ≡ instr_at b pc
-    instr_same pc = ap (λ (is : List Instr). get_or is pc Exit) alike.instrs
+    instr_same pc = ap (λ (is : List Instr). get_or is pc Instr.Exit) alike.instrs
 
     pub turn_same : (m : Machine) → IsSameTurn (turn a s m) (turn b s m)
     turn_same m = subst (λ i. IsSameTurn (turn a s m) (act b s i m)) (instr_same m.at.pc) (act_same (instr_at a m.at.pc) m)

@@ -1,15 +1,15 @@
 -- With an access that was refused a source run goes on, and obeys no more.
-use Rattle.sharc_sound_laws.proofs.{Imports.{◌≡◌, ◌≢◌, ℕ, ◌+◌, ◌⊎◌, inl, inr, ⊎_elim, Bool, true, false, List, [], ◌∷◌, ◌++◌, Some, None, refl, sym, ap, ◌∙◌, subst, append_assoc, Act, CellAt, SourceEvent, CellMode, Taken, Assignment, Access, access_by, events_of, holds_mutex, AskLaws, Asked, AlwaysObeys, History, Obeys, until_gone, SourceRun, Outcome, wants, ended, stopped, Code, PlaceMode, Dynamic, Cell, Instr, Start, ChkRead, ChkWrite, ChkLock, ChkLockLoaded, Load, Store, LoadRef, Exchange, TakeCell, Shape, TurnState, Stopped, Ended, NoLock, Machine, instr_at, may_go, Turn, cell_at, mode_of, place_at, place_after, IsUnder, BreaksRules, GoesOn, WasMade, IsNextOf, site_of_check, Accesses, ChecksAreFollowed, IsFollowed, access_of, access_to, history_of, IsLockCheck, LacksLock, IsNotThere, WantsAccess, WantsBy, StopsOrWantsUnder, access_tested, IsPlaced, StandsAt}, Standing.{grows, stays}}
+use Rattle.sharc_sound_laws.proofs.{Imports.{◌≡◌, ◌≢◌, ℕ, ◌+◌, ◌⊎◌, inl, inr, ⊎_elim, Bool, true, false, List, [], ◌∷◌, ◌++◌, Some, None, refl, sym, ap, ◌∙◌, subst, append_assoc, Act, CellAt, SourceEvent, CellMode, Taken, Assignment, Access, access_by, events_of, holds_mutex, AskLaws, Asked, AlwaysObeys, History, Obeys, until_gone, SourceRun, Outcome, wants, ended, stopped, Code, PlaceMode, Dynamic, Cell, Instr, Shape, TurnState, Stopped, Ended, NoLock, Machine, instr_at, may_go, Turn, cell_at, mode_of, place_at, place_after, IsUnder, BreaksRules, GoesOn, WasMade, IsNextOf, site_of_check, Accesses, ChecksAreFollowed, IsFollowed, access_of, access_to, history_of, IsLockCheck, LacksLock, IsNotThere, WantsAccess, WantsBy, StopsOrWantsUnder, access_tested, IsPlaced, StandsAt}, Standing.{grows, stays}}
 use Rattle.sharc_meaning.specs.Laws.{RunLaws}
 
 -- ---- what an instruction is about
 -- the access that it makes
 makes : (code : Code) (at : Machine) (o : Outcome) (b : Access) (i : Instr) → WantsBy code at o i → access_of code at i ≡ Some b → (site : ℕ) × WantsAccess code o site b
-makes code at o b (Load r c site) w e = (site, (w.0, w.1, w.2 ∙ e))
-makes code at o b (Store r c site) w e = (site, (w.0, w.1, w.2 ∙ e))
-makes code at o b (LoadRef c site) w e = (site, (w.0, w.1, w.2 ∙ e))
-makes code at o b (Exchange r c site) w e = (site, (w.0, w.1, w.2 ∙ e))
-makes code at o b (TakeCell r c site) w e = (site, (w.0, w.1, w.2 ∙ e))
+makes code at o b (Instr.Load r c site) w e = (site, (w.0, w.1, w.2 ∙ e))
+makes code at o b (Instr.Store r c site) w e = (site, (w.0, w.1, w.2 ∙ e))
+makes code at o b (Instr.LoadRef c site) w e = (site, (w.0, w.1, w.2 ∙ e))
+makes code at o b (Instr.Exchange r c site) w e = (site, (w.0, w.1, w.2 ∙ e))
+makes code at o b (Instr.TakeCell r c site) w e = (site, (w.0, w.1, w.2 ∙ e))
 makes code at o b _ w e = cc
 
 -- the access behind a check of it
@@ -22,22 +22,22 @@ behind code at write c site i dynamic h = by_instr write i h
         ∙ ap (λ (mode : PlaceMode). Some (record { cell = cell_at code at c; mode = mode_of code at (cell_at code at c) mode; is_write = w })) dynamic
 
     by_instr : (w : Bool) (i : Instr) → Accesses w c site i → access_of code at i ≡ Some (access_tested code at c w)
-    by_instr false (Load r d site2) q = same false d site2 q
-    by_instr false (LoadRef d site2) q = same false d site2 q
-    by_instr true (Store r d site2) q = same true d site2 q
-    by_instr true (Exchange r d site2) q = same true d site2 q
-    by_instr true (TakeCell r d site2) q = same true d site2 q
+    by_instr false (Instr.Load r d site2) q = same false d site2 q
+    by_instr false (Instr.LoadRef d site2) q = same false d site2 q
+    by_instr true (Instr.Store r d site2) q = same true d site2 q
+    by_instr true (Instr.Exchange r d site2) q = same true d site2 q
+    by_instr true (Instr.TakeCell r d site2) q = same true d site2 q
     by_instr w _ q = absurd q
 
 -- and the one that it checks
 checks : (code : Code) (at : Machine) (o : Outcome) (a : Access) (site : ℕ) (i next : Instr) → IsFollowed code i next → access_of code at next ≡ Some a → site_of_check i ≡ Some site → WantsBy code at o i → (n : ℕ) × WantsAccess code o n a
-checks code at o a site (ChkRead c n) next follows is at_site w = (n, (w.0, w.1, w.2 ∙ sym (behind code at false c n next follows.0 follows.1) ∙ is))
-checks code at o a site (ChkWrite c n) next follows is at_site w = (n, (w.0, w.1, w.2 ∙ sym (behind code at true c n next follows.0 follows.1) ∙ is))
+checks code at o a site (Instr.ChkRead c n) next follows is at_site w = (n, (w.0, w.1, w.2 ∙ sym (behind code at false c n next follows.0 follows.1) ∙ is))
+checks code at o a site (Instr.ChkWrite c n) next follows is at_site w = (n, (w.0, w.1, w.2 ∙ sym (behind code at true c n next follows.0 follows.1) ∙ is))
 checks code at o a site _ next follows is at_site w = cc
 
 -- a check is no access
 no_both : (code : Code) (at : Machine) (b : Access) (site : ℕ) (i : Instr) → site_of_check i ≡ Some site → access_of code at i ≡ Some b → ⊥
-no_both code at b site (ChkRead c n) e q = cc
+no_both code at b site (Instr.ChkRead c n) e q = cc
 no_both code at b site _ e q = cc
 
 -- an access under a mutex
@@ -56,11 +56,11 @@ not_ended code at o site mutex i check w is = by_instr i check w
     either n c (inr q) = let z : ended ≡ wants _ = sym is ∙ q.1 in cc
 
     by_instr : (i : Instr) → IsLockCheck code at i site mutex → WantsBy code at o i → ⊥
-    by_instr (ChkLock c n) check w = either n (cell_at code at c) w
-    by_instr (ChkLockLoaded n) check w = either n _ w
+    by_instr (Instr.ChkLock c n) check w = either n (cell_at code at c) w
+    by_instr (Instr.ChkLockLoaded n) check w = either n _ w
     by_instr _ check w = absurd check
 
-module _ (ask : AskLaws) (laws : RunLaws) (m : Assignment) (always : AlwaysObeys m) (code : Code) (starts : instr_at code 0 ≡ Start 0) (s : Shape) where
+module _ (ask : AskLaws) (laws : RunLaws) (m : Assignment) (always : AlwaysObeys m) (code : Code) (starts : instr_at code 0 ≡ Instr.Start 0) (s : Shape) where
   abbrev Placed : List Turn → ℕ → Type 0
   Placed run t = IsNotThere (history_of code s run) t ((place_after code s run).threads t) ⊎ IsPlaced m code (history_of code s run) t ((place_after code s run).threads t)
 

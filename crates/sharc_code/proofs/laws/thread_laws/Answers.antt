@@ -1,4 +1,4 @@
-use Rattle.sharc_code.proofs.{Imports.instr_at, Failing.failed_stays, Keeps.keeps_turn, Outcomes.comes_out, Settled.same_turn, Trying.{trying, waits_where}}
+use Rattle.sharc_code.proofs.{Imports.instr_at, Aims.aims, Failing.failed_stays, Keeps.keeps_turn, Outcomes.comes_out, Settled.same_turn, Tells.told_by, Trying.{trying, waits_where}}
 use Rattle.sharc_code.proofs.laws.thread_laws.Goals as goal
 
 pub returns : goal.returns
@@ -10,4 +10,6 @@ returns c = record {
   forgets = λ code s m. same_turn code s m;
   keeps = λ code s m found. keeps_turn code s m found;
   outcomes = λ code s i m found. comes_out code s m i found;
+  aims = λ code s i m builds. aims code s m builds i;
+  tells = λ code i m found elements. told_by code m i found elements;
 }

@@ -1,4 +1,4 @@
-use Rattle.sharc_guard.proofs.{Imports.{◌≡◌, ◌+◌, ◌<◌, List, Bool, Some, length, get_or, slice_get, subst, sym, ap, ◌∙◌, arith, false, get_or_read, Op, flat_of, notes_of}, Making.got, Targets.{IsAt, at_first, at_next, all_marked}}
+use Rattle.sharc_guard.proofs.{Imports.{slice_get-get_or, ◌≡◌, ◌+◌, ◌<◌, List, Bool, Some, length, get_or, slice_get, subst, sym, ap, ◌∙◌, arith, false, get_or_read, Op, flat_of, notes_of}, Targets.{IsAt, at_first, at_next, all_marked}}
 use Rattle.sharc_flat.specs.declared.op.Op.TheVariants as op
 use Rattle.sharc_guard.proofs.marks.mark_all.Goals as goal
 
@@ -16,7 +16,7 @@ loop-n-preserved c =
     let here : n < length lines = omega (arith, c.loop-n-test.true, c.len-n-end.ensures) in
     let inside : n + 1 < length c.args.targets.now = omega (arith, c.loop-n-test.true, c.len-n-end.ensures, c.requires.targets.count) in
     let read : get_or lines n op.Enter ≡ o = sym (get_or_read lines n o here c.index-op.ensures op.Enter) in
-    let at : slice_get lines n ≡ Some o = got lines n op.Enter here ∙ ap Some read in
+    let at : slice_get lines n ≡ Some o = slice_get-get_or lines n op.Enter here ∙ ap Some read in
     subst (λ (xs : List Bool). IsAt flat (n + 1) xs (notes_of c.step.new.self)) (sym c.in_ok-push.ensures.items)
     (at_next flat n c.loop-n.marks.items (notes_of c.loop-n.knowledge) (notes_of c.step.new.self) o c.drops.result (get_or c.args.targets.now (n + 1) false) at c.loop-n.invariant c.drops.ensures
     (c.requires.targets.are (n + 1) inside) c.in_ok-step.ensures.known c.in_ok-step.ensures.before)

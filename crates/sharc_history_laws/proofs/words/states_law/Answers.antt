@@ -10,7 +10,7 @@ ended_is Ended e = refl
 
 pub returns-clause-told : goal.returns-clause-told
 returns-clause-told c = λ code s turns checked t low.
-    let h = (holds c.run_laws.ensures c.standing_laws.ensures c.thread_laws.ensures.outcomes code s turns ((c.run_laws.ensures.checked code s turns).0 checked)).tells in
+    let h = (holds c.run_laws.ensures c.standing_laws.ensures code s turns ((c.run_laws.ensures.checked code s turns).0 checked)).tells in
     record {
       few = h.few t low;
       waits = (h.waits t low, h.begun t low);
@@ -19,7 +19,7 @@ returns-clause-told c = λ code s turns checked t low.
 
 pub returns-clause-new : goal.returns-clause-new
 returns-clause-new c = λ code s turns checked t n drawn.
-    let all = holds c.run_laws.ensures c.standing_laws.ensures c.thread_laws.ensures.outcomes code s turns ((c.run_laws.ensures.checked code s turns).0 checked) in
+    let all = holds c.run_laws.ensures c.standing_laws.ensures code s turns ((c.run_laws.ensures.checked code s turns).0 checked) in
     let h = all.tells in
     let o = h.number t n drawn in
     let g = place_after code s turns in

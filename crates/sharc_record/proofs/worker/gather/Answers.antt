@@ -1,4 +1,4 @@
-use Rattle.sharc_record.proofs.{Imports.{◌≡◌, ◌<◌, ◌%◌, length, Some, None, get_or, set, refl, sym, ap, ◌∙◌, arith, mod_below, length-set, is_some, with_item, SeatView, Worker, hand_at, Seat, any_default, some_within, pushed}, Dealing.put_other}
+use Rattle.sharc_record.proofs.{Imports.{◌≡◌, ◌<◌, ◌%◌, length, Some, None, get_or, set, refl, sym, ap, ◌∙◌, arith, mod_below, length-set, is_some, with_item, SeatView, Worker, hand_at, Seat, any_default, pushed}, Dealing.{put_other, hand_there}}
 use Rattle.sharc_record.proofs.worker.gather.Goals as goal
 
 pub index_mut-requires-in-loop-n : goal.index_mut-requires-in-loop-n
@@ -6,11 +6,9 @@ index_mut-requires-in-loop-n c =
     let ws = c.loop-n.workers.items in
     let n = c.loop-n.n in
     let d : Worker = c.index_mut.result.now in
-    let count : c.len-count.result ≡ length c.args.workers.items = omega (arith, c.len-count.ensures) in
     let there = c.requires.each n d c.loop-n-test.true in
-    let same : d ≡ get_or ws (n % length c.args.workers.items) d = c.index_mut.ensures.value ∙ ap (λ k. get_or ws (n % k) d) count in
-    let is : get_or d.hands.items n None ≡ Some there.0 = ap (λ (x : Worker). get_or x.hands.items n None) same ∙ c.loop-n.invariant.left n d (omega arith) c.loop-n-test.true ∙ there.1 in
-    let low : n < length d.hands.items = some_within d.hands.items n there.0 is in
+    let at = hand_there ws n c.len-count.result (length c.args.workers.items) d there.0 (omega (arith, c.len-count.ensures)) c.index_mut.ensures.value (c.loop-n.invariant.left n d (omega arith) c.loop-n-test.true ∙ there.1) in
+    let low : n < length d.hands.items = at.1 in
     omega (arith, low)
 
 pub unwrap-seat-requires : goal.unwrap-seat-requires
@@ -18,12 +16,10 @@ unwrap-seat-requires c =
     let ws = c.loop-n.workers.items in
     let n = c.loop-n.n in
     let d : Worker = c.index_mut.result.now in
-    let count : c.len-count.result ≡ length c.args.workers.items = omega (arith, c.len-count.ensures) in
     let there = c.requires.each n d c.loop-n-test.true in
-    let same : d ≡ get_or ws (n % length c.args.workers.items) d = c.index_mut.ensures.value ∙ ap (λ k. get_or ws (n % k) d) count in
-    let is : get_or d.hands.items n None ≡ Some there.0 = ap (λ (x : Worker). get_or x.hands.items n None) same ∙ c.loop-n.invariant.left n d (omega arith) c.loop-n-test.true ∙ there.1 in
-    let low : n < length d.hands.items = some_within d.hands.items n there.0 is in
-    ap is_some (c.take.ensures.value ∙ c.index_mut-in-loop-n.ensures.value ∙ any_default d.hands.items n c.index_mut-in-loop-n.result.now None low ∙ is)
+    let at = hand_there ws n c.len-count.result (length c.args.workers.items) d there.0 (omega (arith, c.len-count.ensures)) c.index_mut.ensures.value (c.loop-n.invariant.left n d (omega arith) c.loop-n-test.true ∙ there.1) in
+    let low : n < length d.hands.items = at.1 in
+    ap is_some (c.take.ensures.value ∙ c.index_mut-in-loop-n.ensures.value ∙ any_default d.hands.items n c.index_mut-in-loop-n.result.now None low ∙ at.0)
 
 pub loop-n-preserved : goal.loop-n-preserved
 loop-n-preserved c =
@@ -33,10 +29,9 @@ loop-n-preserved c =
     let d : Worker = c.index_mut.result.now in
     let count : c.len-count.result ≡ length first = omega (arith, c.len-count.ensures) in
     let there = c.requires.each n d c.loop-n-test.true in
-    let same : d ≡ get_or ws (n % length first) d = c.index_mut.ensures.value ∙ ap (λ k. get_or ws (n % k) d) count in
-    let is : get_or d.hands.items n None ≡ Some there.0 = ap (λ (x : Worker). get_or x.hands.items n None) same ∙ c.loop-n.invariant.left n d (omega arith) c.loop-n-test.true ∙ there.1 in
-    let low : n < length d.hands.items = some_within d.hands.items n there.0 is in
-    let took : c.take.result ≡ Some there.0 = c.take.ensures.value ∙ c.index_mut-in-loop-n.ensures.value ∙ any_default d.hands.items n c.index_mut-in-loop-n.result.now None low ∙ is in
+    let at = hand_there ws n c.len-count.result (length c.args.workers.items) d there.0 (omega (arith, c.len-count.ensures)) c.index_mut.ensures.value (c.loop-n.invariant.left n d (omega arith) c.loop-n-test.true ∙ there.1) in
+    let low : n < length d.hands.items = at.1 in
+    let took : c.take.result ≡ Some there.0 = c.take.ensures.value ∙ c.index_mut-in-loop-n.ensures.value ∙ any_default d.hands.items n c.index_mut-in-loop-n.result.now None low ∙ at.0 in
     let within : n % c.len-count.result < length ws = omega (arith, c.loop-n.invariant.count, count, mod_below n c.len-count.result (omega (arith, count, c.requires.some))) in
     let new : Worker = record { hands = with_item d.hands n c.take.new.self } in
     let put : new.hands.items ≡ set d.hands.items n c.take.new.self = refl in

@@ -2,20 +2,18 @@ use Rattle.std.proofs.{Common.{◌≡◌, ◌<◌, ◌%◌, length, Some, None, 
 use Rattle.std.specs.{Prelude.is_some, Vec.with_item}
 use Rattle.sharc_bus.specs.Bus.{SeatView}
 use Rattle.sharc_rounds.specs.{Round.{Seat, hand_at}, declared.worker.Worker.Worker}
-use Rattle.sharc_rounds.proofs.Dealing.{put_other}
+use Rattle.sharc_rounds.proofs.Dealing.{put_other, hand_there}
 use Rattle.sharc_rounds.proofs.worker.gather.Goals as goal
-use Rattle.sharc_lemmas.proofs.Lists.{any_default, some_within, pushed}
+use Rattle.sharc_lemmas.proofs.Lists.{any_default, pushed}
 
 pub index_mut-requires-in-loop-n : goal.index_mut-requires-in-loop-n
 index_mut-requires-in-loop-n c =
     let ws = c.loop-n.workers.items in
     let n = c.loop-n.n in
     let d : Worker = c.index_mut.result.now in
-    let count : c.len-count.result ≡ length c.args.workers.items = omega (arith, c.len-count.ensures) in
     let there = c.requires.each n d c.loop-n-test.true in
-    let same : d ≡ get_or ws (n % length c.args.workers.items) d = c.index_mut.ensures.value ∙ ap (λ k. get_or ws (n % k) d) count in
-    let is : get_or d.hands.items n None ≡ Some there.0 = ap (λ (x : Worker). get_or x.hands.items n None) same ∙ c.loop-n.invariant.left n d (omega arith) c.loop-n-test.true ∙ there.1 in
-    let low : n < length d.hands.items = some_within d.hands.items n there.0 is in
+    let at = hand_there ws n c.len-count.result (length c.args.workers.items) d there.0 (omega (arith, c.len-count.ensures)) c.index_mut.ensures.value (c.loop-n.invariant.left n d (omega arith) c.loop-n-test.true ∙ there.1) in
+    let low : n < length d.hands.items = at.1 in
     omega (arith, low)
 
 pub unwrap-seat-requires : goal.unwrap-seat-requires
@@ -23,12 +21,10 @@ unwrap-seat-requires c =
     let ws = c.loop-n.workers.items in
     let n = c.loop-n.n in
     let d : Worker = c.index_mut.result.now in
-    let count : c.len-count.result ≡ length c.args.workers.items = omega (arith, c.len-count.ensures) in
     let there = c.requires.each n d c.loop-n-test.true in
-    let same : d ≡ get_or ws (n % length c.args.workers.items) d = c.index_mut.ensures.value ∙ ap (λ k. get_or ws (n % k) d) count in
-    let is : get_or d.hands.items n None ≡ Some there.0 = ap (λ (x : Worker). get_or x.hands.items n None) same ∙ c.loop-n.invariant.left n d (omega arith) c.loop-n-test.true ∙ there.1 in
-    let low : n < length d.hands.items = some_within d.hands.items n there.0 is in
-    ap is_some (c.take.ensures.value ∙ c.index_mut-in-loop-n.ensures.value ∙ any_default d.hands.items n c.index_mut-in-loop-n.result.now None low ∙ is)
+    let at = hand_there ws n c.len-count.result (length c.args.workers.items) d there.0 (omega (arith, c.len-count.ensures)) c.index_mut.ensures.value (c.loop-n.invariant.left n d (omega arith) c.loop-n-test.true ∙ there.1) in
+    let low : n < length d.hands.items = at.1 in
+    ap is_some (c.take.ensures.value ∙ c.index_mut-in-loop-n.ensures.value ∙ any_default d.hands.items n c.index_mut-in-loop-n.result.now None low ∙ at.0)
 
 pub loop-n-preserved : goal.loop-n-preserved
 loop-n-preserved c =
@@ -38,10 +34,9 @@ loop-n-preserved c =
     let d : Worker = c.index_mut.result.now in
     let count : c.len-count.result ≡ length first = omega (arith, c.len-count.ensures) in
     let there = c.requires.each n d c.loop-n-test.true in
-    let same : d ≡ get_or ws (n % length first) d = c.index_mut.ensures.value ∙ ap (λ k. get_or ws (n % k) d) count in
-    let is : get_or d.hands.items n None ≡ Some there.0 = ap (λ (x : Worker). get_or x.hands.items n None) same ∙ c.loop-n.invariant.left n d (omega arith) c.loop-n-test.true ∙ there.1 in
-    let low : n < length d.hands.items = some_within d.hands.items n there.0 is in
-    let took : c.take.result ≡ Some there.0 = c.take.ensures.value ∙ c.index_mut-in-loop-n.ensures.value ∙ any_default d.hands.items n c.index_mut-in-loop-n.result.now None low ∙ is in
+    let at = hand_there ws n c.len-count.result (length c.args.workers.items) d there.0 (omega (arith, c.len-count.ensures)) c.index_mut.ensures.value (c.loop-n.invariant.left n d (omega arith) c.loop-n-test.true ∙ there.1) in
+    let low : n < length d.hands.items = at.1 in
+    let took : c.take.result ≡ Some there.0 = c.take.ensures.value ∙ c.index_mut-in-loop-n.ensures.value ∙ any_default d.hands.items n c.index_mut-in-loop-n.result.now None low ∙ at.0 in
     let within : n % c.len-count.result < length ws = omega (arith, c.loop-n.invariant.count, count, mod_below n c.len-count.result (omega (arith, count, c.requires.some))) in
     let new : Worker = record { hands = with_item d.hands n c.take.new.self } in
     let put : new.hands.items ≡ set d.hands.items n c.take.new.self = refl in

@@ -17,28 +17,36 @@ look_at_states-requires g c =
 pub begin-requires-clause-count : goal.begin-requires-clause-count
 begin-requires-clause-count g c = c.in_ok-threads.ensures.made.count ∙ c.requires.rounds.seats.count
 
-pub returns-clause-rounds : goal.returns-clause-rounds
-returns-clause-rounds g c =
+-- the run goes on by the round
+gone_on : (g : _) (c : goal.In_ok-begin g)
+    → GoneOn c.args.code.now c.args.shape.now c.args.limit c.requires.rounds.turns c.args.self.words.rest.words c.in_ok-threads.field-0.words.rest.words c.args.self.threads.seats.items c.begin.new.self.seats.items c.in_ok-threads.ensures.made.history.history
+gone_on g c =
     let code = c.args.code.now in
     let s = c.args.shape.now in
     let old : Rounds = c.args.self in
     let r = c.requires.rounds in
     let mid : Rounds = c.in_ok-threads.field-0 in
-    let made = c.in_ok-threads.ensures.made in
     let looked : Words = c.look_at_states.new.self in
-    let same = c.look_at_states.ensures.same in
     let now : List ℕ = mid.words.rest.words in
     let each : (t : ℕ) → t < THREADS → HasBegun code s now t (get_or mid.threads.seats.items t None) (get_or c.begin.new.self.seats.items t None) = λ t low.
     begun_same code s looked.seen.items now t (get_or mid.threads.seats.items t None) (get_or c.begin.new.self.seats.items t None) (c.look_at_states.ensures.states t low)
     (subst (λ (ws : List ℕ). HasBegun code s ws t (get_or mid.threads.seats.items t None) (get_or c.begin.new.self.seats.items t None)) c.as_slice.ensures.value (c.in_ok-begin.ensures.each t low)) in
-    let gone : GoneOn code s c.args.limit r.turns old.words.rest.words now old.threads.seats.items c.begin.new.self.seats.items made.history.history =
     c.round_laws.ensures.goes_on code s c.args.limit r.turns old.words.rest.words now old.threads.seats.items mid.threads.seats.items c.begin.new.self.seats.items c.requires.limit
-    record { run = r.run; few = r.few; words_are = r.words; seats_are = r.seats } made c.begin.ensures.count each in
-    let count = c.round_laws.ensures.length_stays code s c.args.limit old.words.rest.words now old.threads.seats.items mid.threads.seats.items made in
+    record { run = r.run; few = r.few; words_are = r.words; seats_are = r.seats } c.in_ok-threads.ensures.made c.begin.ensures.count each
+
+pub returns-clause-rounds : goal.returns-clause-rounds
+returns-clause-rounds g c =
+    let old : Rounds = c.args.self in
+    let r = c.requires.rounds in
+    let mid : Rounds = c.in_ok-threads.field-0 in
+    let made = c.in_ok-threads.ensures.made in
+    let same = c.look_at_states.ensures.same in
+    let gone = gone_on g c in
+    let count = c.round_laws.ensures.length_stays c.args.code.now c.args.shape.now c.args.limit old.words.rest.words mid.words.rest.words old.threads.seats.items mid.threads.seats.items made in
     let kept : AreWords mid.words = are_kept old.words mid.words r.kept c.in_ok-threads.ensures.kept count in
     record {
       turns = gone.more ++ r.turns;
-      kept = are_same mid.words looked kept same;
+      kept = are_same mid.words c.look_at_states.new.self kept same;
       count = ap (λ (v : RestView). length v.words) same.rest ∙ count ∙ r.count;
       run = gone.stands.run;
       few = gone.stands.few;
@@ -47,19 +55,4 @@ returns-clause-rounds g c =
     }
 
 pub returns-clause-less : goal.returns-clause-less
-returns-clause-less g c =
-    let code = c.args.code.now in
-    let s = c.args.shape.now in
-    let old : Rounds = c.args.self in
-    let r = c.requires.rounds in
-    let mid : Rounds = c.in_ok-threads.field-0 in
-    let made = c.in_ok-threads.ensures.made in
-    let looked : Words = c.look_at_states.new.self in
-    let now : List ℕ = mid.words.rest.words in
-    let each : (t : ℕ) → t < THREADS → HasBegun code s now t (get_or mid.threads.seats.items t None) (get_or c.begin.new.self.seats.items t None) = λ t low.
-    begun_same code s looked.seen.items now t (get_or mid.threads.seats.items t None) (get_or c.begin.new.self.seats.items t None) (c.look_at_states.ensures.states t low)
-    (subst (λ (ws : List ℕ). HasBegun code s ws t (get_or mid.threads.seats.items t None) (get_or c.begin.new.self.seats.items t None)) c.as_slice.ensures.value (c.in_ok-begin.ensures.each t low)) in
-    let gone : GoneOn code s c.args.limit r.turns old.words.rest.words now old.threads.seats.items c.begin.new.self.seats.items made.history.history =
-    c.round_laws.ensures.goes_on code s c.args.limit r.turns old.words.rest.words now old.threads.seats.items mid.threads.seats.items c.begin.new.self.seats.items c.requires.limit
-    record { run = r.run; few = r.few; words_are = r.words; seats_are = r.seats } made c.begin.ensures.count each in
-    gone.fewer c.requires.one
+returns-clause-less g c = (gone_on g c).fewer c.requires.one
