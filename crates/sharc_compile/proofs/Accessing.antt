@@ -1,5 +1,5 @@
 -- From the checks of guarded code to those of its code.
-use Rattle.sharc_compile.proofs.Imports.{◌≡◌, ℕ, zero, suc, ◌+◌, ◌-◌, ◌<◌, inl, inr, Bool, true, false, List, [], ◌∷◌, length, map, refl, sym, ap, ◌∙◌, subst, arith, Some, slice_get, get_or as slice_index_or, if◌then◌else◌, Code, Function, PlaceMode, Private, Readonly, Racy, Dynamic, LockedGlobal, LockedSibling, LockedThrough, LockedLoaded, SourcePlace, Instr, Jump, JumpIfZero, JumpIfNull, Call, ChkRead, ChkWrite, no_function, place_at, no_place, Guarded, Access, access_of, IsCheckOf, IsGenerated, program_of, instr_of, LeadsTo, IsNoTarget, IsAfterCheck, IsCheckedAt}
+use Rattle.sharc_compile.proofs.Imports.{◌≡◌, ℕ, zero, suc, ◌+◌, ◌-◌, ◌<◌, inl, inr, Bool, true, false, List, [], ◌∷◌, length, map, refl, sym, ap, ◌∙◌, subst, arith, Some, slice_get, get_or as slice_index_or, if◌then◌else◌, Code, Function, PlaceMode, Private, Readonly, Racy, Dynamic, LockedGlobal, LockedSibling, LockedThrough, LockedLoaded, SourcePlace, Instr, no_function, place_at, no_place, Guarded, Access, access_of, IsCheckOf, IsGenerated, program_of, instr_of, LeadsTo, IsNoTarget, IsAfterCheck, IsCheckedAt}
 use Rattle.sharc_guard.specs.Checked as Guarded
 
 -- the statement of an instruction
@@ -19,13 +19,13 @@ goes_to fs (x ∷ ss) zero s e = let h : x ≡ s = cc in ap (λ x. Some (instr_o
 goes_to fs (x ∷ ss) (suc pc) s e = goes_to fs ss pc s e
 
 same_access : (fs : List Function) (s : Instr) → access_of (instr_of fs s) ≡ access_of s
-same_access fs (Call f ints refs site) = refl
+same_access fs (Instr.Call f ints refs site) = refl
 same_access fs _ = refl
 
 same_check : (fs : List Function) (mode : PlaceMode) (a : Access) (check : Instr) → IsCheckOf mode a check → IsCheckOf mode a (instr_of fs check)
 same_check fs Dynamic a check h = ap (instr_of fs) h ∙ by a.is_write
   where
-    by : (b : Bool) → instr_of fs (if b then ChkWrite a.cell a.site else ChkRead a.cell a.site) ≡ (if b then ChkWrite a.cell a.site else ChkRead a.cell a.site)
+    by : (b : Bool) → instr_of fs (if b then Instr.ChkWrite a.cell a.site else Instr.ChkRead a.cell a.site) ≡ (if b then Instr.ChkWrite a.cell a.site else Instr.ChkRead a.cell a.site)
     by true = refl
     by false = refl
 same_check fs (LockedGlobal g place) a check h = ap (instr_of fs) h
@@ -53,10 +53,10 @@ module _ (dropped : ℕ → Bool) (g : Guarded) (code : Code) (made : IsGenerate
   functions_are = λ i. (made.functions i).items
 
   leads : (pc : ℕ) (s : Instr) → LeadsTo (instr_of fs s) (pc + 1) → Guarded.IsNoTarget (program_of g) (pc + 1) → (q : ℕ) → slice_get ss q ≡ Some s → ⊥
-  leads pc (Jump to) l none q e = none.jumps q (Jump to) e l
-  leads pc (JumpIfZero r to) l none q e = none.jumps q (JumpIfZero r to) e l
-  leads pc (JumpIfNull r to) l none q e = none.jumps q (JumpIfNull r to) e l
-  leads pc (Call f ints refs site) l none q e = none.entries f (known fs f pc l) l
+  leads pc (Instr.Jump to) l none q e = none.jumps q (Instr.Jump to) e l
+  leads pc (Instr.JumpIfZero r to) l none q e = none.jumps q (Instr.JumpIfZero r to) e l
+  leads pc (Instr.JumpIfNull r to) l none q e = none.jumps q (Instr.JumpIfNull r to) e l
+  leads pc (Instr.Call f ints refs site) l none q e = none.entries f (known fs f pc l) l
   leads pc _ l none q e = absurd l
 
   -- nothing leads to the place after one, in the code

@@ -1,5 +1,5 @@
 -- The statements of one turn that ask for an event.
-use Rattle.sharc_compile.proofs.{Imports.{is_some, length, eqb-true, ◌≡◌, ℕ, ℤ, zero, suc, pos, negsuc, ◌+◌, ◌<◌, ◌≤◌, inr, Bool, true, false, ◌||◌, List, [], ◌∷◌, ◌++◌, refl, sym, ap, ◌∙◌, subst, arith, ◌==◌, nat_lt, Option, None, ne_eqb, lt-ltb, if◌then◌else◌, Act, CellAt, CellMode, SourceEvent, Taken, HeldMutex, object_of, without, waits_in, THREADS, WordOp, Code, GlobalCells, PlaceMode, Cell, Global, GlobalAt, InObject, ObjectAt, Instr, Join, Shape, Runs, Rests, Trapped as Trap, int_of, first_cell, state_word, Machine, int, ref, set_int, set_ref, move_ref, goes, fails, trapped, accessed, place, object, word, raise, test, reference_of, taken, locked, unlocked, joined, join, woken, Local, AsksStep, step_of, after, asked_by, is_failed_try, reference, cell_at, mode_of, place_at, kind_of, variable_of, access, event_at, take_local, BaseWithin, Program, Thread, Turn, Running, event_of, source_at, statement_at, turn, NULL, is_null, program_over, Elements, IsNumber, IsFree, IsHeld, elements_told, Same, AreHeld, IsReference, Refuses}, Registers.no_reference, Logs.{Apart, without_is, object_held, log_pushed}, Sames.{all_ints, all_refs, int_is, ref_is, null_at, set_int_same, set_ref_same, null_same, pending_same, base_is, cell_is, mode_is, is_cell, word_is}, Turns.{Turned, event_is, asks_on, plain, halts, tries_again}}
+use Rattle.sharc_compile.proofs.{Imports.{is_some, length, eqb-true, ◌≡◌, ℕ, ℤ, zero, suc, pos, negsuc, ◌+◌, ◌<◌, ◌≤◌, inr, Bool, true, false, ◌||◌, List, [], ◌∷◌, ◌++◌, refl, sym, ap, ◌∙◌, subst, arith, ◌==◌, nat_lt, Option, None, ne_eqb, lt-ltb, if◌then◌else◌, Act, CellAt, CellMode, SourceEvent, Taken, HeldMutex, object_of, without, waits_in, THREADS, WordOp, Code, GlobalCells, PlaceMode, Cell, Global, GlobalAt, InObject, ObjectAt, Instr, Shape, Runs, Rests, Trapped as Trap, int_of, first_cell, state_word, Machine, int, ref, set_int, set_ref, move_ref, goes, fails, trapped, accessed, place, object, word, raise, test, reference_of, taken, locked, unlocked, joined, join, woken, Local, AsksStep, step_of, after, asked_by, is_failed_try, reference, cell_at, mode_of, place_at, kind_of, variable_of, access, event_at, take_local, BaseWithin, Program, Thread, Turn, Running, event_of, source_at, statement_at, NULL, is_null, program_over, Elements, IsNumber, IsFree, IsHeld, elements_told, Same, AreHeld, IsReference, Refuses}, Registers.no_reference, Logs.{Apart, without_is, object_held, log_pushed}, Sames.{all_ints, all_refs, int_is, ref_is, null_at, set_int_same, set_ref_same, null_same, pending_same, base_is, cell_is, mode_is, is_cell, word_is}, Turns.{Turned, event_is, asks_on, plain, halts, tries_again}}
 use Rattle.sharc_tree.specs.declared.trap.Trap.TheVariants as traps
 use Rattle.sharc_guard.specs.Machine as Form
 
@@ -207,10 +207,10 @@ module _ (code : Code) (s : Shape) (statements : List Instr) (T : Elements) (m :
       each false tried = tells site (Act.Woken (cell_at code m cell)) (Act.Woken (Form.cell_at p a cell)) (ap Act.Woken (sym (cell_is code s T m a same statements cell))) (goes m) same refl refl refl
 
   -- a Join: the thread is gone, or not yet, or there is none
-  no_thread : (r site : ℕ) (t : Turn) → statement_at p a.pc ≡ Join r site → Done t (trapped m traps.NoSuchThread site) None
+  no_thread : (r site : ℕ) (t : Turn) → statement_at p a.pc ≡ Instr.Join r site → Done t (trapped m traps.NoSuchThread site) None
   no_thread r site t st = halts code s statements T m a cost one rest same pc running (Trap traps.NoSuchThread site) t 1 (inr (subst (λ i. Refuses i traps.NoSuchThread site) (sym st) (refl, refl)))
 
-  pub joins : (r site found : ℕ) (z : ℤ) → z ≡ Form.int a r → statement_at p a.pc ≡ Join r site
+  pub joins : (r site found : ℕ) (z : ℤ) → z ≡ Form.int a r → statement_at p a.pc ≡ Instr.Join r site
       → (asked_by (join m z site) ≡ None → found ≡ 0) → (is_failed_try (after (join m z site) found).at.state ≡ true → cost ≡ 0)
       → Done (Form.tells_at p a site (Act.Join (Form.int a r))) (after (join m z site) found) (if found == 0 || (found == 1 || found == 2) then None else event_at code m site (pos 0) (Act.Join z))
   joins r site found (negsuc n) e st quiet tried =

@@ -1,9 +1,16 @@
 -- A path of code comes to where a path of guarded code is.
-use Rattle.sharc_compile.proofs.{Imports.{◌≡◌, ℕ, ℤ, pos, ◌+◌, ◌*◌, ◌<◌, ◌≤◌, ◌⊎◌, inl, inr, Bool, true, false, ◌||◌, List, [], ◌∷◌, ◌++◌, length, map, replicate, refl, sym, ap, ◌∙◌, subst, ⊎_elim, arith, Option, Some, None, slice_index, get_or as slice_index_or, slice_set, lt-ltb, cases_eq, cases_lt, append-nil, map-append, length-replicate, length-set, get_or-set_same, get_or-set_other, get_or-replicate, get_or_past, if◌then◌else◌, option_map, option_to_list, SourceEvent, Code, Layout, Parameter, Instr, Start, Exit, Lower, Shape, Frame, TurnState, Runs, Tries, Stopped, Ended, Rests, Enters, FRAMES, int_of, Machine, ref, set_ref, goes, act, at_stage, instr_at, free, freed, layout_at, entered, called, with_parameter, function_of, no_frame, begun, after, machine_after, may_go, IsPath, asked_by, most_ints, most_refs, is_left_out, is_failed_try, repeats, paced_in, said, speaks_of, reference, started_with, in_free, ThreadLaws, IsGuarded, HasParameter, Program, Thread, statement_at, started, fresh, thread_after, weight_in, weight, NULL, instr_of, generated, program_over, Elements, elements_told, said_now, said_in, Has, IsConsistentTurn, IsConsistent, MayFind, IsArgument, IsArgumentAt, Same, IsReference, IsAt, IsLinking, MatchesThread, IsAtStage, phase_of, phase_at, IsOver, spent_at, by, begins, stop_turn, IsBeginning, HasCome, lowered_by, unless_told, lowered_in, all_null}, Registers.no_reference, Lowering.{lowered_of, lowered_same, step_lowers, lowers_next, is_lower, lower_goes}, Sames.{number_at, all_ints, all_refs, set_int_same, set_ref_same, same_retabled}, Turns.{Turned, Moved, Stayed, left_at}, OneTurn.{phase_now, by_kind, at_exit}, Holding.mapped_at}
+use Rattle.sharc_compile.proofs.{Imports.{◌≡◌, ℕ, zero, suc, ℤ, pos, ◌+◌, ◌*◌, ◌<◌, ◌≤◌, ◌⊎◌, inl, inr, Bool, true, false, ◌||◌, List, [], ◌∷◌, ◌++◌, length, map, replicate, refl, sym, ap, ◌∙◌, subst, ⊎_elim, arith, Option, Some, None, slice_index, get_or as slice_index_or, slice_set, lt-ltb, cases_eq, cases_lt, append-nil, map-append, length-replicate, length-set, get_or-set_same, get_or-set_other, get_or-replicate, get_or_past, if◌then◌else◌, option_map, option_to_list, SourceEvent, Code, Layout, Parameter, Instr, Shape, Frame, TurnState, Runs, Tries, Stopped, Ended, Rests, Enters, FRAMES, int_of, Machine, ref, set_ref, goes, act, at_stage, instr_at, free, freed, layout_at, entered, called, with_parameter, function_of, no_frame, begun, after, machine_after, may_go, IsPath, asked_by, most_ints, most_refs, is_left_out, is_failed_try, repeats, paced_in, said, speaks_of, reference, started_with, in_free, ThreadLaws, IsGuarded, HasParameter, Program, Thread, statement_at, started, fresh, thread_after, weight_in, weight, NULL, instr_of, generated, program_over, Elements, elements_told, said_now, said_in, Has, IsConsistentTurn, IsConsistent, MayFind, IsArgument, IsArgumentAt, Same, IsReference, IsAt, IsLinking, MatchesThread, IsAtStage, phase_of, phase_at, IsOver, spent_at, by, begins, stop_turn, IsBeginning, HasCome, lowered_by, unless_told, lowered_in, all_null}, Registers.no_reference, Lowering.{lowered_same, lowers_next, is_lower, lower_goes}, Sames.{number_at, all_ints, all_refs, set_int_same, set_ref_same, same_retabled}, Turns.{Turned, Moved, Stayed, left_at}, OneTurn.{phase_now, by_kind, at_exit}}
 use Rattle.sharc_code.specs.{declared.state.At.At, Layout.function_at, Path.turn}
+use Rattle.sharc_guard.specs.Logged.{TurnsLeave, lowered_of}
 use Rattle.sharc_guard.specs.Machine as Form
 use Rattle.sharc_guard.specs.Path as Guarded
 use Rattle.sharc_compile.proofs.Inside as Inner
+
+-- ---- instructions
+mapped_at : (f : Instr → Instr) (xs : List Instr) (n : ℕ) → f Instr.Exit ≡ Instr.Exit → slice_index_or (map f xs) n Instr.Exit ≡ f (slice_index_or xs n Instr.Exit)
+mapped_at f [] n e = sym e
+mapped_at f (x ∷ xs) zero e = refl
+mapped_at f (x ∷ xs) (suc n) e = mapped_at f xs n e
 
 all_zero : (n i : ℕ) → slice_index_or (replicate n (pos 0)) i (pos 0) ≡ pos 0
 all_zero n i = ⊎_elim
@@ -11,12 +18,12 @@ all_zero n i = ⊎_elim
     (λ (le : n ≤ i). get_or_past (replicate n (pos 0)) i (pos 0) (let e = length-replicate n (pos 0) in omega arith))
     (cases_lt i n)
 
-module _ (code : Code) (s : Shape) (statements : List Instr) (is : code.instrs.items ≡ generated code.functions.items statements) (good : IsGuarded (program_over code statements)) (laws : ThreadLaws) where
+module _ (code : Code) (s : Shape) (statements : List Instr) (is : code.instrs.items ≡ generated code.functions.items statements) (good : IsGuarded (program_over code statements)) (laws : ThreadLaws) (turns_leave : TurnsLeave) where
   abbrev p : Program
   p = program_over code statements
 
   instr_is : (pc : ℕ) → instr_at code pc ≡ instr_of code.functions.items (statement_at p pc)
-  instr_is pc = ap (λ xs. slice_index_or xs pc Exit) is ∙ mapped_at (instr_of code.functions.items) statements pc refl
+  instr_is pc = ap (λ xs. slice_index_or xs pc Instr.Exit) is ∙ mapped_at (instr_of code.functions.items) statements pc refl
 
   -- ---- with the elements before the next turn
   freed_has : (m : Machine) (r : ℕ) (l : Layout) (elements n : ℕ) → 0 < n → Has (freed m r l elements) n → Has m n
@@ -182,7 +189,7 @@ module _ (code : Code) (s : Shape) (statements : List Instr) (is : code.instrs.i
       lowers =
           ap (λ ev. unless_told ev (low ++ lowered_by m (instr_at code m.at.pc))) x.said ∙ by_number x.event (low ++ lowered_by m (instr_at code m.at.pc))
           ∙ ap (λ xs. unless_told x.event (xs ++ lowered_by m (instr_at code m.at.pc))) h.lowers ∙ ap (λ xs. unless_told x.event (there.lowered ++ xs)) (same_low at)
-          ∙ sym (lowers_next (Form.turn p there) there (lowered_of there (statement_at p there.pc)) x.answer x.event x.go (step_lowers p (statement_at p there.pc) there) x.events);
+          ∙ sym (lowers_next (Form.turn p there) there (lowered_of there (statement_at p there.pc)) x.answer x.event x.go (turns_leave p (statement_at p there.pc) there) x.events);
       pace = let q1 = h.pace in let q2 = x.pace in let q3 = running_stop m.at.state on in omega arith;
     }
       where
@@ -231,15 +238,15 @@ module _ (code : Code) (s : Shape) (statements : List Instr) (is : code.instrs.i
     stays_at : IsAt code s p T m there → Stayed code s statements T m there (cost m found) after_it e → lowered_by m (instr_at code m.at.pc) ≡ []
     stays_at at x = same_low at ∙ each (is_lower there (statement_at p there.pc))
       where
-        leaves : (r : ℕ) → statement_at p there.pc ≡ Lower r → after_it ≡ goes (set_ref m r 0) → MatchesThread code s p T after_it there → lowered_of there (statement_at p there.pc) ≡ []
+        leaves : (r : ℕ) → statement_at p there.pc ≡ Instr.Lower r → after_it ≡ goes (set_ref m r 0) → MatchesThread code s p T after_it there → lowered_of there (statement_at p there.pc) ≡ []
         leaves r e to (inl y) = let q1 = y.pc_is in let q2 = at.pc_is in let q3 = ap (λ (m : Machine). m.at.pc) to in absurd (omega arith)
         leaves r e to (inr y) =
-            absurd (subst (IsAtStage m (Lower r)) (sym (ap (λ (m : Machine). m.own.stage) to) ∙ y.stage) (subst (λ i. IsAtStage m i m.own.stage) e at.stage))
+            absurd (subst (IsAtStage m (Instr.Lower r)) (sym (ap (λ (m : Machine). m.own.stage) to) ∙ y.stage) (subst (λ i. IsAtStage m i m.own.stage) e at.stage))
 
-        each : ((r : ℕ) × (statement_at p there.pc ≡ Lower r)) ⊎ (lowered_of there (statement_at p there.pc) ≡ []) → lowered_of there (statement_at p there.pc) ≡ []
+        each : ((r : ℕ) × (statement_at p there.pc ≡ Instr.Lower r)) ⊎ (lowered_of there (statement_at p there.pc) ≡ []) → lowered_of there (statement_at p there.pc) ≡ []
         each (inr none) = none
         each (inl l) =
-            let here : instr_at code m.at.pc ≡ Lower l.0 = instr_is m.at.pc ∙ ap (λ pc. instr_of code.functions.items (statement_at p pc)) (sym at.pc_is) ∙ ap (instr_of code.functions.items) l.1 in
+            let here : instr_at code m.at.pc ≡ Instr.Lower l.0 = instr_is m.at.pc ∙ ap (λ pc. instr_of code.functions.items (statement_at p pc)) (sym at.pc_is) ∙ ap (instr_of code.functions.items) l.1 in
             let to : after_it ≡ goes (set_ref m l.0 0) = ap (λ i. after (act code s i m) found) here ∙ lower_goes s (ref m l.0) (goes (set_ref m l.0 0)) found in
             leaves l.0 l.1 to x.stands
 
@@ -328,7 +335,7 @@ module _ (code : Code) (s : Shape) (statements : List Instr) (is : code.instrs.i
     abbrev Where : Elements → Machine → List SourceEvent → List ℕ → ℕ → Type 0
     Where T m events low paced = IsFirst m events paced ⊎ (IsEntering m events paced ⊎ Come T thread m events low paced)
 
-    start_is : instr_at code 0 ≡ Start good.start
+    start_is : instr_at code 0 ≡ Instr.Start good.start
     start_is = instr_is 0 ∙ ap (instr_of code.functions.items) (Inner.at_start p good)
 
     module _ (T later : Elements) (m : Machine) (found : ℕ) (events : List SourceEvent) (low : List ℕ) (paced : ℕ) (on : may_go m.at.state ≡ true) (turns : IsConsistentTurn code s T later m found) where
@@ -343,11 +350,11 @@ module _ (code : Code) (s : Shape) (statements : List Instr) (is : code.instrs.i
 
       from_first : IsFirst m events paced → Next
       from_first h =
-          let here : instr_at code m.at.pc ≡ Start good.start = ap (λ (m : Machine). instr_at code m.at.pc) h.machine ∙ start_is in
+          let here : instr_at code m.at.pc ≡ Instr.Start good.start = ap (λ (m : Machine). instr_at code m.at.pc) h.machine ∙ start_is in
           let lt : found < length code.functions.items = subst (λ (m : Machine). IsArgumentAt code m.own.stage found) h.machine (subst (MayFind code s T m found) here turns.finds) in
-          let to : next_one ≡ entering (function_at code found) = ap (λ i. after (act code s i m) found) here ∙ ap (λ (m : Machine). after (act code s (Start good.start) m) found) h.machine in
+          let to : next_one ≡ entering (function_at code found) = ap (λ i. after (act code s i m) found) here ∙ ap (λ (m : Machine). after (act code s (Instr.Start good.start) m) found) h.machine in
           let f : function_at code found ≡ found = rw (lt-ltb found (length code.functions.items) lt) refl in
-          let none : said_one ≡ None = ap (λ i. said code i m found (T (speaks_of i m found))) here ∙ ap (λ (m : Machine). said code (Start good.start) m found (T found)) h.machine in
+          let none : said_one ≡ None = ap (λ i. said code i m found (T (speaks_of i m found))) here ∙ ap (λ (m : Machine). said code (Instr.Start good.start) m found (T found)) h.machine in
           inr (inl (record {
             function = found;
             known = lt;
@@ -360,11 +367,11 @@ module _ (code : Code) (s : Shape) (statements : List Instr) (is : code.instrs.i
       from_entering h =
           let f = h.function in
           let q = (function_of code f).parameter in
-          let here : instr_at code m.at.pc ≡ Start good.start = ap (λ (m : Machine). instr_at code m.at.pc) h.machine ∙ start_is in
+          let here : instr_at code m.at.pc ≡ Instr.Start good.start = ap (λ (m : Machine). instr_at code m.at.pc) h.machine ∙ start_is in
           let arg : IsArgument q found = subst (λ (m : Machine). IsArgumentAt code m.own.stage found) h.machine (subst (MayFind code s T m found) here turns.finds) in
           let m2 = entered code (entering f) f good.start found in
-          let to : next_one ≡ m2 = ap (λ i. after (act code s i m) found) here ∙ ap (λ (m : Machine). after (act code s (Start good.start) m) found) h.machine in
-          let says_it : said_one ≡ Some (by thread (begins p f (argued T f found))) = ap (λ i. said code i m found (T (speaks_of i m found))) here ∙ ap (λ (m : Machine). said code (Start good.start) m found (T found)) h.machine in
+          let to : next_one ≡ m2 = ap (λ i. after (act code s i m) found) here ∙ ap (λ (m : Machine). after (act code s (Instr.Start good.start) m) found) h.machine in
+          let says_it : said_one ≡ Some (by thread (begins p f (argued T f found))) = ap (λ i. said code i m found (T (speaks_of i m found))) here ∙ ap (λ (m : Machine). said code (Instr.Start good.start) m found (T found)) h.machine in
           let en = entered_is T f found good.start q (good.entries f h.known).parameter arg in
           let run : m2.at.state ≡ Runs = ap (λ (at : At). at.state) en.1 in
           let at_pc : m2.at.pc ≡ (function_of code f).entry = ap (λ (at : At). at.pc) en.1 in

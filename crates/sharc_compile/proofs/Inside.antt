@@ -1,5 +1,5 @@
 -- A thread of well-formed guarded code stays within its functions, and its registers within the banks.
-use Rattle.sharc_compile.proofs.Imports.{slice_get-get_or, get_or_from_slice_get, ◌≡◌, ℕ, ℤ, zero, suc, pos, negsuc, ◌+◌, ◌*◌, ◌<◌, ◌≤◌, ◌⊎◌, inl, inr, max, Bool, true, false, List, [], ◌∷◌, ◌++◌, length, fold, refl, sym, ap, ◌∙◌, subst, ⊎_elim, arith, Result, Ok, Err, nat_lt, slice_get, get_or as slice_index_or, ltb-true, if◌then◌else◌, SourceEvent, CellAt, Trap, Act, Function, Parameter, Cell, Global, Register, Instr, ComputeInt, ComputeLong, NegateInt, NegateLong, ChkWidth, Jump, JumpIfZero, JumpIfNull, Call, Return, ChkNull, ChkHeld, ChkNotHeld, ChkPositive, ChkRoom, ChkLock, ChkLockLoaded, Bounds, GlobalBounds, TakeLocal, Lock, Spawn, Start, Exit, Frame, is_zero, no_function, most_ints, most_refs, is_null, IsBody, IsAtPlace, IsGuarded, Program, Thread, turn, Phase, Running, Leaving, Left, Turn, Goes, Halts, function_at, statement_at, step, handed, without_base, to, source_at, event_of, argument, started, fresh, times_more, times_le}
+use Rattle.sharc_compile.proofs.Imports.{slice_get-get_or, get_or_from_slice_get, ◌≡◌, ℕ, ℤ, zero, suc, pos, negsuc, ◌+◌, ◌*◌, ◌<◌, ◌≤◌, ◌⊎◌, inl, inr, max, Bool, true, false, List, [], ◌∷◌, ◌++◌, length, fold, refl, sym, ap, ◌∙◌, subst, ⊎_elim, arith, Result, Ok, Err, nat_lt, get_or as slice_index_or, ltb-true, if◌then◌else◌, SourceEvent, CellAt, Trap, Act, Function, Parameter, Cell, Global, Register, Instr, Frame, is_zero, no_function, most_ints, most_refs, is_null, IsBody, IsAtPlace, IsGuarded, Program, Thread, turn, Phase, Running, Leaving, Left, Turn, Goes, Halts, function_at, statement_at, step, handed, without_base, to, source_at, event_of, argument, started, fresh, times_more, times_le}
 use Rattle.sharc_guard.specs.{Machine.{int, ref, asserts, with_result, indexed, called, returned, lock_checked, exit, Stopped, back_to, next, set_int, cell_at}, Path.{after, with_parameter}}
 
 -- ---- the largest function
@@ -71,13 +71,13 @@ module _ (p : Program) (good : IsGuarded p) where
 
   -- what is known of a place
   pub at_place : (a : Thread) → Within a → IsAtPlace p good.owner a.pc (statement_at p a.pc)
-  at_place a h = good.each a.pc (statement_at p a.pc) h.body.behind (slice_get-get_or p.statements a.pc Exit h.body.inside)
+  at_place a h = good.each a.pc (statement_at p a.pc) h.body.behind (slice_get-get_or p.statements a.pc Instr.Exit h.body.inside)
 
-  pub at_exit : (a : Thread) → InExit a.pc a.frames → statement_at p a.pc ≡ Exit
-  at_exit a h = ap (statement_at p) h.pc_is ∙ get_or_from_slice_get p.statements 1 Exit Exit good.exits
+  pub at_exit : (a : Thread) → InExit a.pc a.frames → statement_at p a.pc ≡ Instr.Exit
+  at_exit a h = ap (statement_at p) h.pc_is ∙ get_or_from_slice_get p.statements 1 Instr.Exit Instr.Exit good.exits
 
-  pub at_start : statement_at p 0 ≡ Start good.start
-  at_start = get_or_from_slice_get p.statements 0 (Start good.start) Exit good.starts
+  pub at_start : statement_at p 0 ≡ Instr.Start good.start
+  at_start = get_or_from_slice_get p.statements 0 (Instr.Start good.start) Instr.Exit good.starts
 
   module _ (a : Thread) (h : Within a) where
     goes_to : (pc : ℕ) → IsBody p good.owner (good.owner a.pc) pc → InBody pc a.ints_from a.refs_from a.frames
@@ -192,30 +192,30 @@ module _ (p : Program) (good : IsGuarded p) where
 
     -- each statement of a body
     stays_inside : (i : Instr) → IsAtPlace p good.owner a.pc i → (x : ℤ) → Inside (after a (step p i a) x)
-    stays_inside (ComputeInt operator r y z site) k x = resulted r site _ x k.leads
-    stays_inside (ComputeLong operator r y z site) k x = resulted r site _ x k.leads
-    stays_inside (NegateInt r y site) k x = resulted r site _ x k.leads
-    stays_inside (NegateLong r y site) k x = resulted r site _ x k.leads
-    stays_inside (ChkWidth width r site) k x = asserted _ Trap.OutOfRange site x k.leads
-    stays_inside (Jump pc) k x = inl (goes_to pc k.leads)
-    stays_inside (JumpIfZero r pc) k x = jumps (is_zero (int a r)) pc x k.leads.0 k.leads.1
-    stays_inside (JumpIfNull r pc) k x = jumps (is_null (ref a r)) pc x k.leads.0 k.leads.1
-    stays_inside (Call f ints refs site) k x = calls f ints refs site x k.writes.0 k.writes.1 k.leads.0 k.leads.1
-    stays_inside (Return site) k x = returns_inside site x
-    stays_inside (ChkNull r site) k x = asserted _ Trap.NullPointer site x k.leads
-    stays_inside (ChkHeld cell site) k x = asserted _ Trap.MutexNotHeld site x k.leads
-    stays_inside (ChkNotHeld cell site) k x = asserted _ Trap.MutexAlreadyHeld site x k.leads
-    stays_inside (ChkPositive r site) k x = asserted _ Trap.SizeNotPositive site x k.leads
-    stays_inside (ChkRoom site) k x = asserted _ Trap.TooManyLocks site x k.leads
-    stays_inside (ChkLock cell site) k x = lock_inside _ _ site x k.leads
-    stays_inside (ChkLockLoaded site) k x = lock_inside _ _ site x k.leads
-    stays_inside (Bounds r base cells field site) k x = index_inside r (int a r) cells field site _ x k.leads
-    stays_inside (GlobalBounds r elements cells field site) k x = index_inside r (int a r) cells field site _ x k.leads
-    stays_inside (TakeLocal r from site) k x = takes (is_null (ref a from)) _ _ x (goes_next k.leads) (goes_next k.leads)
-    stays_inside (Lock cell site) k x = locks_inside cell (a.held ++ cell_at p a cell ∷ []) (a.events ++ event_of (source_at p site).site (Act.Lock (cell_at p a cell)) (pos 0) ∷ []) k.leads
-    stays_inside (Spawn r function from site) k x = spawns_inside from r x (a.events ++ event_of (source_at p site).site (Act.Spawn function (argument a from)) x ∷ []) k.leads
-    stays_inside (Start site) k x = absurd k.leads
-    stays_inside Exit k x = absurd k.leads
+    stays_inside (Instr.ComputeInt operator r y z site) k x = resulted r site _ x k.leads
+    stays_inside (Instr.ComputeLong operator r y z site) k x = resulted r site _ x k.leads
+    stays_inside (Instr.NegateInt r y site) k x = resulted r site _ x k.leads
+    stays_inside (Instr.NegateLong r y site) k x = resulted r site _ x k.leads
+    stays_inside (Instr.ChkWidth width r site) k x = asserted _ Trap.OutOfRange site x k.leads
+    stays_inside (Instr.Jump pc) k x = inl (goes_to pc k.leads)
+    stays_inside (Instr.JumpIfZero r pc) k x = jumps (is_zero (int a r)) pc x k.leads.0 k.leads.1
+    stays_inside (Instr.JumpIfNull r pc) k x = jumps (is_null (ref a r)) pc x k.leads.0 k.leads.1
+    stays_inside (Instr.Call f ints refs site) k x = calls f ints refs site x k.writes.0 k.writes.1 k.leads.0 k.leads.1
+    stays_inside (Instr.Return site) k x = returns_inside site x
+    stays_inside (Instr.ChkNull r site) k x = asserted _ Trap.NullPointer site x k.leads
+    stays_inside (Instr.ChkHeld cell site) k x = asserted _ Trap.MutexNotHeld site x k.leads
+    stays_inside (Instr.ChkNotHeld cell site) k x = asserted _ Trap.MutexAlreadyHeld site x k.leads
+    stays_inside (Instr.ChkPositive r site) k x = asserted _ Trap.SizeNotPositive site x k.leads
+    stays_inside (Instr.ChkRoom site) k x = asserted _ Trap.TooManyLocks site x k.leads
+    stays_inside (Instr.ChkLock cell site) k x = lock_inside _ _ site x k.leads
+    stays_inside (Instr.ChkLockLoaded site) k x = lock_inside _ _ site x k.leads
+    stays_inside (Instr.Bounds r base cells field site) k x = index_inside r (int a r) cells field site _ x k.leads
+    stays_inside (Instr.GlobalBounds r elements cells field site) k x = index_inside r (int a r) cells field site _ x k.leads
+    stays_inside (Instr.TakeLocal r from site) k x = takes (is_null (ref a from)) _ _ x (goes_next k.leads) (goes_next k.leads)
+    stays_inside (Instr.Lock cell site) k x = locks_inside cell (a.held ++ cell_at p a cell ∷ []) (a.events ++ event_of (source_at p site).site (Act.Lock (cell_at p a cell)) (pos 0) ∷ []) k.leads
+    stays_inside (Instr.Spawn r function from site) k x = spawns_inside from r x (a.events ++ event_of (source_at p site).site (Act.Spawn function (argument a from)) x ∷ []) k.leads
+    stays_inside (Instr.Start site) k x = absurd k.leads
+    stays_inside Instr.Exit k x = absurd k.leads
     stays_inside _ k x = goes_next k.leads
 
   exits_inside : (a : Thread) (phase : Phase) (x : ℤ) → InExit a.pc a.frames → Inside (after a (exit p a phase) x)

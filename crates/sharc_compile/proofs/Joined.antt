@@ -1,5 +1,5 @@
 -- From code over guarded code to flat code.
-use Rattle.sharc_compile.proofs.Imports.{◌≡◌, ℕ, ℤ, ◌<◌, ◌≤◌, inl, inr, Bool, List, ◌∷◌, ◌++◌, length, map, refl, sym, ap, ◌∙◌, subst, arith, Some, None, Option, length-map, get_or as slice_index_or, Act, SourceEvent, Trap, Code, Shape, Instr, Join, Spawn, New, TurnState, Runs, Tries, Stopped, Ended, Stage, Makes, Stop, Conflict, NoLock, NotSole, Trapped, Machine, place_at, no_place, NewStage, Guarded, Program, Thread, source_at, statement_at, turn, step, started, thread_after, GuardedKeepsPaths, Resolved, Wants, guarded, entered_at, Elements, by, begins, stop_turn, HasCome, IsGenerated, program_of, MatchesThread, IsOver, StopsAt, Refuses, spent_at, spent_in_new, WantsAt, IsRefusal, StopsFor, IsOverFor, FollowsFlat, IsFlat}
+use Rattle.sharc_compile.proofs.Imports.{◌≡◌, ℕ, ℤ, ◌<◌, ◌≤◌, inl, inr, Bool, List, ◌∷◌, ◌++◌, length, map, refl, sym, ap, ◌∙◌, subst, arith, Some, None, Option, length-map, get_or as slice_index_or, Act, SourceEvent, Trap, Code, Shape, Instr, TurnState, Runs, Tries, Stopped, Ended, Stage, Makes, Stop, Conflict, NoLock, NotSole, Trapped, Machine, place_at, no_place, NewStage, Guarded, Program, Thread, source_at, statement_at, turn, step, started, thread_after, GuardedKeepsPaths, Resolved, Wants, guarded, entered_at, Elements, by, begins, stop_turn, HasCome, IsGenerated, program_of, MatchesThread, IsOver, StopsAt, Refuses, spent_at, spent_in_new, WantsAt, IsRefusal, StopsFor, IsOverFor, FollowsFlat, IsFlat}
 use Rattle.sharc_heap.specs.declared.stage.NewStage.TheVariants.{Cell}
 use Rattle.sharc_meaning.specs.State.{stopped}
 use Rattle.sharc_flat.specs.Machine as Flat
@@ -29,9 +29,9 @@ module _ (flat : Flat.Flat) (p : Program) (code : Code) (sites : (n : ℕ) → (
     asks : turn p a ≡ Form.Asks (source_at p site).site act go
 
   refused : (a : Thread) (i : Instr) (x : Trap) (site : ℕ) → statement_at p a.pc ≡ i → Refuses i x site → Asking a site × IsRefusal x
-  refused a (Join r at) x site e h = (record { act = _; go = _; asks = ap (λ i. step p i a) e ∙ ap (λ n. step p (Join r n) a) (sym h.1) }, inl h.0)
-  refused a (Spawn r f from at) x site e h = (record { act = _; go = _; asks = ap (λ i. step p i a) e ∙ ap (λ n. step p (Spawn r f from n) a) (sym h.1) }, inr (inl h.0))
-  refused a (New r count cells at) x site e h = (record { act = _; go = _; asks = ap (λ i. step p i a) e ∙ ap (λ n. step p (New r count cells n) a) (sym h.1) }, inr (inr h.0))
+  refused a (Instr.Join r at) x site e h = (record { act = _; go = _; asks = ap (λ i. step p i a) e ∙ ap (λ n. step p (Instr.Join r n) a) (sym h.1) }, inl h.0)
+  refused a (Instr.Spawn r f from at) x site e h = (record { act = _; go = _; asks = ap (λ i. step p i a) e ∙ ap (λ n. step p (Instr.Spawn r f from n) a) (sym h.1) }, inr (inl h.0))
+  refused a (Instr.New r count cells at) x site e h = (record { act = _; go = _; asks = ap (λ i. step p i a) e ∙ ap (λ n. step p (Instr.New r count cells n) a) (sym h.1) }, inr (inr h.0))
   refused a _ x site e h = absurd h
 
   module _ (m : Flat.At) (a : Thread) (w : Wants flat p m (turn p a)) where

@@ -14,7 +14,6 @@ pub mod OneTurn
 pub mod Coming
 pub mod OnRuns
 pub mod Accessing
-pub mod Holding
 pub mod Joined
 pub mod Same
 pub mod Sourced

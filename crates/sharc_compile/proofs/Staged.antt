@@ -1,5 +1,5 @@
 -- The statements of several turns, stage by stage.
-use Rattle.sharc_compile.proofs.{Imports.{◌≡◌, ℕ, ℤ, zero, suc, pos, ◌+◌, ◌*◌, ◌<◌, ◌≤◌, inl, inr, Bool, true, false, not, ◌||◌, List, [], ◌∷◌, ◌++◌, length, min, refl, sym, ap, ◌∙◌, subst, arith, ◌==◌, nat_lt, Option, Some, None, ne_eqb, eq-eqb, append-nil, nat_eq, nat_le, if◌then◌else◌, Act, SourceEvent, THREADS, lowest_of, NewView, told, next_stage, try_from, after_cell, turn_of_stage, NewArguments, NewStage, Code, Layout, Cell, Register, Instr, New, Clear, Free, Spawn, Exit, CondSignal, Shape, Runs, Stage, Rests, Looks, Clears, Makes, Empties, Lowers, FreeLooks, FreeClears, Uncounts, Links, Names, Hands, Begins, Withdraws, WithdrawsFrom, Leaves, Wakes, Stop, Trapped as Trap, Machine, int, ref, set_int, set_ref, at_stage, rests, trapped, stopped, new_state, new, asks_new, after_new, made, looks, clear, data_granules, fields, largest, free, free_looks, empties, emptied, layout_at, spawn, withdraws, exit, wakes, signal, word, ends, function_of, goes_on_new, after, repeats, clears_cell, fails_in_new, reference, cell_at, mode_of, place_at, event_at, made_cell, argument_of, of_argument, new_event, in_new, in_free, in_spawn, in_exit, in_signal, nobody, own_event, HandedWithin, Program, Thread, Turn, Goes, Running, Leaving, Left, event_of, source_at, statement_at, turn, NULL, program_over, Elements, IsNew, IsNewIn, IsNewAt, Has, elements_told, Same, MatchesThread, IsAtStage, IsInNew, IsGoing, phase_of, phase_at, StopsAt, IsOver, Refuses, spent_at, spent_in_new, by}, Registers.number_is, Sames.{all_ints, all_refs, int_is, ref_is, cell_is, mode_is, set_int_same, set_ref_same, null_same, same_retabled}, Turns.{Turned, event_is, left_at}}
+use Rattle.sharc_compile.proofs.{Imports.{◌≡◌, ℕ, ℤ, zero, suc, pos, ◌+◌, ◌*◌, ◌<◌, ◌≤◌, inl, inr, Bool, true, false, not, ◌||◌, List, [], ◌∷◌, ◌++◌, length, min, refl, sym, ap, ◌∙◌, subst, arith, ◌==◌, nat_lt, Option, Some, None, ne_eqb, eq-eqb, append-nil, nat_eq, nat_le, if◌then◌else◌, Act, SourceEvent, THREADS, lowest_of, NewView, told, next_stage, try_from, after_cell, turn_of_stage, NewArguments, NewStage, Code, Layout, Cell, Register, Instr, Shape, Runs, Stage, Rests, Looks, Clears, Makes, Empties, Lowers, FreeLooks, FreeClears, Uncounts, Links, Names, Hands, Begins, Withdraws, WithdrawsFrom, Leaves, Wakes, Stop, Trapped as Trap, Machine, int, ref, set_int, set_ref, at_stage, rests, trapped, stopped, new_state, new, asks_new, after_new, made, looks, clear, data_granules, fields, largest, free, free_looks, empties, emptied, layout_at, spawn, withdraws, exit, wakes, signal, word, ends, function_of, goes_on_new, after, repeats, clears_cell, fails_in_new, reference, cell_at, mode_of, place_at, event_at, made_cell, argument_of, of_argument, new_event, in_new, in_free, in_spawn, in_exit, in_signal, nobody, own_event, HandedWithin, Program, Thread, Turn, Goes, Running, Leaving, Left, event_of, source_at, statement_at, NULL, program_over, Elements, IsNew, IsNewIn, IsNewAt, Has, elements_told, Same, MatchesThread, IsAtStage, IsInNew, IsGoing, phase_of, phase_at, StopsAt, IsOver, Refuses, spent_at, spent_in_new, by}, Registers.number_is, Sames.{all_ints, all_refs, int_is, ref_is, cell_is, mode_is, set_int_same, set_ref_same, null_same, same_retabled}, Turns.{Turned, event_is, left_at}}
 use Rattle.sharc_tree.specs.declared.trap.Trap.TheVariants as traps
 use Rattle.sharc_code.specs.{Machine.{elements_of, handed}, Says.number_of}
 use Rattle.sharc_guard.specs.Machine as Form
@@ -47,7 +47,7 @@ module _ (code : Code) (s : Shape) (statements : List Instr) (T : Elements) (m :
         still (Makes state) at = news_still i at
           where
             news_still : (i : Instr) → IsInNew m (Makes state) i → IsInNew (stopped m stop) (Makes state) i
-            news_still (New r count cells site) at = at
+            news_still (Instr.New r count cells site) at = at
             news_still _ at = absurd at
         still _ at = at
 
@@ -90,7 +90,7 @@ module _ (code : Code) (s : Shape) (statements : List Instr) (T : Elements) (m :
   })
 
   -- ---- Clear
-  module _ (r cells : ℕ) (is : statement_at p a.pc ≡ Clear r cells) (running : a.phase ≡ Running) where
+  module _ (r cells : ℕ) (is : statement_at p a.pc ≡ Instr.Clear r cells) (running : a.phase ≡ Running) where
     abbrev ClearTurn : Machine → Type 0
     ClearTurn m' = Done (Form.goes a) 1 m' None
 
@@ -98,15 +98,15 @@ module _ (code : Code) (s : Shape) (statements : List Instr) (T : Elements) (m :
     looked done all pace l = each (nat_lt done all)
       where
         each : (b : Bool) → ClearTurn (if b then at_stage m (Looks done all) else rests m)
-        each true = stays_in (Clear r cells) is _ 1 (at_stage m (Looks done all)) (Looks done all) refl tt refl refl same running (omega arith)
+        each true = stays_in (Instr.Clear r cells) is _ 1 (at_stage m (Looks done all)) (Looks done all) refl tt refl refl same running (omega arith)
         each false = finishes 1 (rests m) (Form.next a) pace same (ap (λ n. n + 1) pc) refl running refl refl
 
-    pub clears : (st : Stage) → m.own.stage ≡ st → IsAtStage m (Clear r cells) st → (found : ℕ) → (repeats st found ≡ true → cost ≡ 0) → ClearTurn (after (clear s m (ref m r) cells st) found)
+    pub clears : (st : Stage) → m.own.stage ≡ st → IsAtStage m (Instr.Clear r cells) st → (found : ℕ) → (repeats st found ≡ true → cost ≡ 0) → ClearTurn (after (clear s m (ref m r) cells st) found)
     clears (Looks done all) e at found rep =
         let z = rep refl in
         let q1 = ap spent_at e in
         let q2 = ap left_at e in
-        stays_in (Clear r cells) is _ 1 (at_stage m (Clears done all found)) (Clears done all found) refl tt refl refl same running (omega arith)
+        stays_in (Instr.Clear r cells) is _ 1 (at_stage m (Clears done all found)) (Clears done all found) refl tt refl refl same running (omega arith)
     clears (Clears done all seen) e at found rep =
         let z = rep refl in
         let q1 = ap spent_at e in
@@ -117,7 +117,7 @@ module _ (code : Code) (s : Shape) (statements : List Instr) (T : Elements) (m :
     clears _ e at found rep = absurd at
 
   -- ---- Spawn
-  module _ (r function : ℕ) (from : Register) (site : ℕ) (is : statement_at p a.pc ≡ Spawn r function from site) (running : a.phase ≡ Running) (lt : r < fi) (within : HandedWithin fr from) where
+  module _ (r function : ℕ) (from : Register) (site : ℕ) (is : statement_at p a.pc ≡ Instr.Spawn r function from site) (running : a.phase ≡ Running) (lt : r < fi) (within : HandedWithin fr from) where
     abbrev spawning : Turn
     spawning = Form.asks_at p a site (Act.Spawn function (Form.argument a from)) Form.given (λ x b. Form.next (Form.set_int (Form.handed b from) r x))
 
@@ -136,7 +136,7 @@ module _ (code : Code) (s : Shape) (statements : List Instr) (T : Elements) (m :
         (λ x b. Form.next (Form.set_int (Form.set_ref b k NULL) r x)) (rests (set_int (set_ref m k 0) r (pos n)))
         pace refl (set_int_same code s T (set_ref m k 0) (Form.set_ref a k NULL) (null_same code s T m a same k (ref_ok k w)) r (pos n) (pos n) refl (int_ok r lt)) refl refl running refl refl
 
-    pub spawns : (st : Stage) → m.own.stage ≡ st → IsAtStage m (Spawn r function from site) st → (found : ℕ)
+    pub spawns : (st : Stage) → m.own.stage ≡ st → IsAtStage m (Instr.Spawn r function from site) st → (found : ℕ)
         → Done spawning 4 (after (spawn m r function from site st) found) (in_spawn code m function from site (T (of_argument m from)) st)
     spawns Rests e at found = each (nat_lt found THREADS)
       where
@@ -144,23 +144,23 @@ module _ (code : Code) (s : Shape) (statements : List Instr) (T : Elements) (m :
         each true =
             let q1 = ap spent_at e in
             let q2 = ap left_at e in
-            stays_in (Spawn r function from site) is spawning 4 (at_stage m (Names found)) (Names found) refl tt refl refl same running (omega arith)
-        each false = stops_in (Spawn r function from site) is spawning 4 (Trap traps.ThreadLimit site) (subst (IsAtStage m (Spawn r function from site)) (sym e) tt) (running ∙ sym (ap phase_at e)) (inr (subst (λ i. Refuses i traps.ThreadLimit site) (sym is) (refl, refl)))
+            stays_in (Instr.Spawn r function from site) is spawning 4 (at_stage m (Names found)) (Names found) refl tt refl refl same running (omega arith)
+        each false = stops_in (Instr.Spawn r function from site) is spawning 4 (Trap traps.ThreadLimit site) (subst (IsAtStage m (Instr.Spawn r function from site)) (sym e) tt) (running ∙ sym (ap phase_at e)) (inr (subst (λ i. Refuses i traps.ThreadLimit site) (sym is) (refl, refl)))
     spawns (Names n) e at found =
         let q1 = ap spent_at e in
         let q2 = ap left_at e in
-        stays_in (Spawn r function from site) is spawning 4 (at_stage m (Hands n)) (Hands n) refl tt refl refl same running (omega arith)
+        stays_in (Instr.Spawn r function from site) is spawning 4 (at_stage m (Hands n)) (Hands n) refl tt refl refl same running (omega arith)
     spawns (Hands n) e at found =
         let q1 = ap spent_at e in
         let q2 = ap left_at e in
-        stays_in (Spawn r function from site) is spawning 4 (at_stage m (Begins n)) (Begins n) refl tt refl refl same running (omega arith)
+        stays_in (Instr.Spawn r function from site) is spawning 4 (at_stage m (Begins n)) (Begins n) refl tt refl refl same running (omega arith)
     spawns (Begins n) e at found =
         let q1 = ap spent_at e in
         began n from within (omega arith)
     spawns _ e at found = absurd at
 
   -- ---- CondSignal
-  module _ (cell : Cell) (site : ℕ) (is : statement_at p a.pc ≡ CondSignal cell site) (running : a.phase ≡ Running) where
+  module _ (cell : Cell) (site : ℕ) (is : statement_at p a.pc ≡ Instr.CondSignal cell site) (running : a.phase ≡ Running) where
     abbrev signalling : Turn
     signalling = Form.asks_at p a site (Act.Signal (Form.cell_at p a cell)) Form.given (λ x b. Form.next b)
 
@@ -172,9 +172,9 @@ module _ (code : Code) (s : Shape) (statements : List Instr) (T : Elements) (m :
     seen_now zero pace l = signalled 0 (omega arith)
     seen_now (suc n) pace l =
         subst (λ b. Done signalling 2 (if b then rests m else at_stage m (Wakes (suc n))) None) (sym (ne_eqb (suc n) 0 (λ q. omega arith)))
-        (stays_in (CondSignal cell site) is signalling 2 (at_stage m (Wakes (suc n))) (Wakes (suc n)) refl tt refl refl same running (omega arith))
+        (stays_in (Instr.CondSignal cell site) is signalling 2 (at_stage m (Wakes (suc n))) (Wakes (suc n)) refl tt refl refl same running (omega arith))
 
-    pub signals : (st : Stage) → m.own.stage ≡ st → IsAtStage m (CondSignal cell site) st → (found : ℕ) → (repeats st found ≡ true → cost ≡ 0)
+    pub signals : (st : Stage) → m.own.stage ≡ st → IsAtStage m (Instr.CondSignal cell site) st → (found : ℕ) → (repeats st found ≡ true → cost ≡ 0)
         → Done signalling 2 (after (signal m (word s m cell) st) found) (in_signal code m cell site found st)
     signals Rests e at found rep =
         let q1 = ap spent_at e in
@@ -192,7 +192,7 @@ module _ (code : Code) (s : Shape) (statements : List Instr) (T : Elements) (m :
     signals _ e at found rep = absurd at
 
   -- ---- Free
-  module _ (r layout site : ℕ) (is : statement_at p a.pc ≡ Free r layout site) (running : a.phase ≡ Running) (lt : r < fr) where
+  module _ (r layout site : ℕ) (is : statement_at p a.pc ≡ Instr.Free r layout site) (running : a.phase ≡ Running) (lt : r < fr) where
     abbrev freeing : Turn
     freeing = Form.asks_at p a site (Act.Freed (Form.ref a r)) Form.no_answer (λ x b. Form.next (Form.set_ref b r NULL))
 
@@ -203,19 +203,19 @@ module _ (code : Code) (s : Shape) (statements : List Instr) (T : Elements) (m :
     free_looked done elements pace q = each (nat_lt done (data_granules elements l.cells))
       where
         each : (b : Bool) → Done freeing 3 (if b then at_stage m (FreeLooks done elements) else at_stage m (Uncounts elements)) None
-        each true = stays_in (Free r layout site) is freeing 3 (at_stage m (FreeLooks done elements)) (FreeLooks done elements) refl tt refl refl same running (omega arith)
-        each false = stays_in (Free r layout site) is freeing 3 (at_stage m (Uncounts elements)) (Uncounts elements) refl tt refl refl same running (omega arith)
+        each true = stays_in (Instr.Free r layout site) is freeing 3 (at_stage m (FreeLooks done elements)) (FreeLooks done elements) refl tt refl refl same running (omega arith)
+        each false = stays_in (Instr.Free r layout site) is freeing 3 (at_stage m (Uncounts elements)) (Uncounts elements) refl tt refl refl same running (omega arith)
 
     free_empties : (i elements : ℕ) → cost + spent_at m.own.stage ≤ 1 → left_at m.own.stage ≡ 0 → Done freeing 3 (empties m l i elements) None
     free_empties i elements pace q = each (nat_lt i (min (elements * fields l) largest))
       where
         each : (b : Bool) → Done freeing 3 (if b then at_stage m (Empties i elements) else free_looks m l 0 elements) None
-        each true = stays_in (Free r layout site) is freeing 3 (at_stage m (Empties i elements)) (Empties i elements) refl tt refl refl same running (omega arith)
+        each true = stays_in (Instr.Free r layout site) is freeing 3 (at_stage m (Empties i elements)) (Empties i elements) refl tt refl refl same running (omega arith)
         each false = free_looked 0 elements pace q
 
     free_emptied : (i elements found : ℕ) → cost + spent_at m.own.stage ≤ 1 → left_at m.own.stage ≡ 0 → Done freeing 3 (emptied m l i elements found) None
     free_emptied i elements zero pace q = free_empties (i + 1) elements pace q
-    free_emptied i elements (suc h) pace q = stays_in (Free r layout site) is freeing 3 (at_stage m (Lowers i elements (suc h))) (Lowers i elements (suc h)) refl tt refl refl same running (omega arith)
+    free_emptied i elements (suc h) pace q = stays_in (Instr.Free r layout site) is freeing 3 (at_stage m (Lowers i elements (suc h))) (Lowers i elements (suc h)) refl tt refl refl same running (omega arith)
 
     -- the event, after which the block is to be linked
     uncounted : (elements : ℕ) → cost + spent_at m.own.stage ≤ 2 → left_at m.own.stage ≡ 0
@@ -241,7 +241,7 @@ module _ (code : Code) (s : Shape) (statements : List Instr) (T : Elements) (m :
       pace = omega arith;
     })
 
-    pub frees : (st : Stage) → m.own.stage ≡ st → IsAtStage m (Free r layout site) st → (found : ℕ) → (repeats st found ≡ true → cost ≡ 0)
+    pub frees : (st : Stage) → m.own.stage ≡ st → IsAtStage m (Instr.Free r layout site) st → (found : ℕ) → (repeats st found ≡ true → cost ≡ 0)
         → Done freeing 3 (after (free code s m r l st) found) (in_free code m r site (T (ref m r)) st)
     frees Rests e at found rep =
         let q1 = ap spent_at e in
@@ -258,7 +258,7 @@ module _ (code : Code) (s : Shape) (statements : List Instr) (T : Elements) (m :
         let z = rep refl in
         let q1 = ap spent_at e in
         let q2 = ap left_at e in
-        stays_in (Free r layout site) is freeing 3 (at_stage m (FreeClears done elements found)) (FreeClears done elements found) refl tt refl refl same running (omega arith)
+        stays_in (Instr.Free r layout site) is freeing 3 (at_stage m (FreeClears done elements found)) (FreeClears done elements found) refl tt refl refl same running (omega arith)
     frees (FreeClears done elements seen) e at found rep =
         let z = rep refl in
         let q1 = ap spent_at e in
@@ -269,7 +269,7 @@ module _ (code : Code) (s : Shape) (statements : List Instr) (T : Elements) (m :
     frees _ e at found rep = absurd at
 
   -- ---- New
-  module _ (r count cells site : ℕ) (is : statement_at p a.pc ≡ New r count cells site) (running : a.phase ≡ Running) (lt : r < fr) where
+  module _ (r count cells site : ℕ) (is : statement_at p a.pc ≡ Instr.New r count cells site) (running : a.phase ≡ Running) (lt : r < fr) where
     abbrev making : Turn
     making = Form.asks_at p a site (Act.New cells (elements_of (Form.int a count)) (Form.object_mode p a site)) Form.given (λ x b. Form.next (Form.set_ref b r x))
 
@@ -280,15 +280,15 @@ module _ (code : Code) (s : Shape) (statements : List Instr) (T : Elements) (m :
     goes_on : (state : NewView) (st : NewStage) → state.stage ≡ st → IsGoing st → state.arguments.elements ≡ elements_of (int m count) → left_at m.own.stage ≡ 0 → cost + spent_at m.own.stage ≤ spent_in_new st → NewTurned (at_stage m (Makes state)) None
     goes_on state st e going args q pace =
         let q1 = ap spent_in_new e in
-        stays_in (New r count cells site) is making 4 (at_stage m (Makes state)) (Makes state) refl (args, subst IsGoing (sym e) going) refl refl same running (omega arith)
+        stays_in (Instr.New r count cells site) is making 4 (at_stage m (Makes state)) (Makes state) refl (args, subst IsGoing (sym e) going) refl refl same running (omega arith)
 
-    full : IsAtStage m (New r count cells site) m.own.stage → a.phase ≡ phase_at m.own.stage → NewTurned (trapped m traps.HeapFull site) None
-    full at phase = stops_in (New r count cells site) is making 4 (Trap traps.HeapFull site) at phase (inr (subst (λ i. Refuses i traps.HeapFull site) (sym is) (refl, refl)))
+    full : IsAtStage m (Instr.New r count cells site) m.own.stage → a.phase ≡ phase_at m.own.stage → NewTurned (trapped m traps.HeapFull site) None
+    full at phase = stops_in (Instr.New r count cells site) is making 4 (Trap traps.HeapFull site) at phase (inr (subst (λ i. Refuses i traps.HeapFull site) (sym is) (refl, refl)))
 
     -- the machine after a step, by the stage that comes next
     lands : (state : NewView) (st : NewStage) → state.stage ≡ st → IsGoing st → (st ≡ NewStage.Begins → ⊥) → state.arguments.elements ≡ elements_of (int m count) → left_at m.own.stage ≡ 0
         → ((st ≡ NewStage.Full → ⊥) → cost + spent_at m.own.stage ≤ spent_in_new st)
-        → IsAtStage m (New r count cells site) m.own.stage → a.phase ≡ phase_at m.own.stage → NewTurned (after_new m r site state (turn_of_stage state.arguments st)) None
+        → IsAtStage m (Instr.New r count cells site) m.own.stage → a.phase ≡ phase_at m.own.stage → NewTurned (after_new m r site state (turn_of_stage state.arguments st)) None
     lands state NewStage.Begins e going begins args q pace at phase = absurd (begins refl)
     lands state NewStage.Link e going begins args q pace at phase = goes_on state NewStage.Link e tt args q (pace (λ x. absurd (cc)))
     lands state (NewStage.Cell c) e going begins args q pace at phase = goes_on state (NewStage.Cell c) e tt args q (pace (λ x. absurd (cc)))
@@ -301,7 +301,7 @@ module _ (code : Code) (s : Shape) (statements : List Instr) (T : Elements) (m :
 
     -- the stage after a look at the top
     tried : (state : NewView) (top found : ℕ) → state.stage ≡ try_from state.arguments top → state.arguments.elements ≡ elements_of (int m count) → left_at m.own.stage ≡ 0 → cost + spent_at m.own.stage ≤ 1
-        → IsAtStage m (New r count cells site) m.own.stage → a.phase ≡ phase_at m.own.stage → NewTurned (after_new m r site state (turn_of_stage state.arguments (try_from state.arguments top))) None
+        → IsAtStage m (Instr.New r count cells site) m.own.stage → a.phase ≡ phase_at m.own.stage → NewTurned (after_new m r site state (turn_of_stage state.arguments (try_from state.arguments top))) None
     tried state top found e args q pace at phase = each (nat_le (top + state.arguments.block) state.arguments.end) e
       where
         each : (b : Bool) → state.stage ≡ (if b then NewStage.Move top (top + state.arguments.block) else NewStage.Full)
@@ -310,7 +310,7 @@ module _ (code : Code) (s : Shape) (statements : List Instr) (T : Elements) (m :
         each false e = full at phase
 
     cleared : (state : NewView) (c : ℕ) → state.stage ≡ after_cell state.arguments c → state.arguments.elements ≡ elements_of (int m count) → left_at m.own.stage ≡ 0 → cost + spent_at m.own.stage ≤ 1
-        → IsAtStage m (New r count cells site) m.own.stage → a.phase ≡ phase_at m.own.stage → NewTurned (after_new m r site state (turn_of_stage state.arguments (after_cell state.arguments c))) None
+        → IsAtStage m (Instr.New r count cells site) m.own.stage → a.phase ≡ phase_at m.own.stage → NewTurned (after_new m r site state (turn_of_stage state.arguments (after_cell state.arguments c))) None
     cleared state c e args q pace at phase = each (nat_lt (c + 1) state.arguments.cells) e
       where
         each : (b : Bool) → state.stage ≡ (if b then NewStage.Cell (c + 1) else NewStage.Count state.arguments.head)
@@ -320,7 +320,7 @@ module _ (code : Code) (s : Shape) (statements : List Instr) (T : Elements) (m :
 
     moved : (state : NewView) (top u found : ℕ) → state.stage ≡ (if nat_eq top found then NewStage.Count top else try_from state.arguments found) → state.arguments.elements ≡ elements_of (int m count) → left_at m.own.stage ≡ 0 → spent_at m.own.stage ≡ 1
         → (not (found == top) ≡ true → cost ≡ 0)
-        → IsAtStage m (New r count cells site) m.own.stage → a.phase ≡ phase_at m.own.stage
+        → IsAtStage m (Instr.New r count cells site) m.own.stage → a.phase ≡ phase_at m.own.stage
         → NewTurned (after_new m r site state (turn_of_stage state.arguments (if nat_eq top found then NewStage.Count top else try_from state.arguments found))) None
     moved state top u found e args q sp rep at phase = each (nat_eq top found) refl e
       where
@@ -364,7 +364,7 @@ module _ (code : Code) (s : Shape) (statements : List Instr) (T : Elements) (m :
     -- one turn, by the stage in which the New is
     makes : (state : NewView) (st : NewStage) → state.stage ≡ st → IsGoing st → state.arguments.elements ≡ elements_of (int m count) → (found : ℕ) → spent_at m.own.stage ≡ spent_in_new st → left_at m.own.stage ≡ 0
         → IsNewIn m st → (leaves_out state.arguments found st ≡ true → cost ≡ 0)
-        → IsAtStage m (New r count cells site) m.own.stage → a.phase ≡ phase_at m.own.stage
+        → IsAtStage m (Instr.New r count cells site) m.own.stage → a.phase ≡ phase_at m.own.stage
         → NewTurned (after (asks_new m r site state (turn_of_stage state.arguments st)) found) (new_event code m site cells state st)
     makes state st e going args found sp q fresh rep at phase = by_stage st e going sp fresh rep
       where
@@ -391,7 +391,7 @@ module _ (code : Code) (s : Shape) (statements : List Instr) (T : Elements) (m :
         by_stage (NewStage.Made h) e going sp fresh rep = absurd going
         by_stage NewStage.Full e going sp fresh rep = full at phase
 
-    pub makes_new : (st : Stage) → m.own.stage ≡ st → IsAtStage m (New r count cells site) st → (found : ℕ) → IsNewAt m st → (repeats st found ≡ true → cost ≡ 0)
+    pub makes_new : (st : Stage) → m.own.stage ≡ st → IsAtStage m (Instr.New r count cells site) st → (found : ℕ) → IsNewAt m st → (repeats st found ≡ true → cost ≡ 0)
         → NewTurned (after (new s m r (elements_of (int m count)) cells site st) found) (in_new code m site cells st)
     makes_new Rests e at found fresh rep =
         each (nat_eq (new_state s m (elements_of (int m count)) cells).arguments.head 0) refl
@@ -399,19 +399,19 @@ module _ (code : Code) (s : Shape) (statements : List Instr) (T : Elements) (m :
         state : NewView
         state = told (new_state s m (elements_of (int m count)) cells) 0
 
-        here : IsAtStage m (New r count cells site) m.own.stage
-        here = subst (IsAtStage m (New r count cells site)) (sym e) tt
+        here : IsAtStage m (Instr.New r count cells site) m.own.stage
+        here = subst (IsAtStage m (Instr.New r count cells site)) (sym e) tt
 
         each : (b : Bool) → nat_eq (new_state s m (elements_of (int m count)) cells).arguments.head 0 ≡ b
             → NewTurned (after (asks_new m r site (told (new_state s m (elements_of (int m count)) cells) 0) (turn_of_stage (new_state s m (elements_of (int m count)) cells).arguments (if b then NewStage.Top else NewStage.Link))) found) None
         each true x = makes (told (new_state s m (elements_of (int m count)) cells) 0) NewStage.Top (ap (λ b. if b then NewStage.Top else NewStage.Link) x) tt refl found (ap spent_at e) (ap left_at e) tt (λ z. absurd (cc)) here (running ∙ sym (ap phase_at e))
         each false x = makes (told (new_state s m (elements_of (int m count)) cells) 0) NewStage.Link (ap (λ b. if b then NewStage.Top else NewStage.Link) x) tt refl found (ap spent_at e) (ap left_at e) tt (λ z. absurd (cc)) here (running ∙ sym (ap phase_at e))
     makes_new (Makes state) e at found fresh rep =
-        makes state state.stage refl at.1 at.0 found (ap spent_at e) (ap left_at e) fresh rep (subst (IsAtStage m (New r count cells site)) (sym e) at) (running ∙ sym (ap phase_at e))
+        makes state state.stage refl at.1 at.0 found (ap spent_at e) (ap left_at e) fresh rep (subst (IsAtStage m (Instr.New r count cells site)) (sym e) at) (running ∙ sym (ap phase_at e))
     makes_new _ e at found fresh rep = absurd at
 
   -- ---- Exit
-  module _ (is : statement_at p a.pc ≡ Exit) where
+  module _ (is : statement_at p a.pc ≡ Instr.Exit) where
     abbrev Leaving_now : Machine → Type 0
     Leaving_now m' = Done (Form.exit p a Leaving) 1 m' None
 
@@ -419,8 +419,8 @@ module _ (code : Code) (s : Shape) (statements : List Instr) (T : Elements) (m :
     withdrawn row phase z q1 q2 t = each (nat_lt row (length m.own.table.order))
       where
         each : (b : Bool) → Done t 1 (if b then at_stage m (Withdraws row) else at_stage m Leaves) None
-        each true = stays_in Exit is t 1 (at_stage m (Withdraws row)) (Withdraws row) refl tt refl refl same phase (omega arith)
-        each false = stays_in Exit is t 1 (at_stage m Leaves) Leaves refl tt refl refl same phase (omega arith)
+        each true = stays_in Instr.Exit is t 1 (at_stage m (Withdraws row)) (Withdraws row) refl tt refl refl same phase (omega arith)
+        each false = stays_in Instr.Exit is t 1 (at_stage m Leaves) Leaves refl tt refl refl same phase (omega arith)
 
     site_is : (Form.function_at p a.function).site ≡ (function_of code m.own.function).site
     site_is = ap (λ f. (Form.function_at p f).site) same.function_is
@@ -432,7 +432,7 @@ module _ (code : Code) (s : Shape) (statements : List Instr) (T : Elements) (m :
     returned : m.own.stage ≡ Rests → Done (Form.exit p a Running) 1 (withdraws m 0) (own_event code m Act.Return)
     returned e = each (nat_lt 0 (length m.own.table.order))
       where
-        gone : (m' : Machine) (st : Stage) → m'.own.stage ≡ st → IsAtStage m' Exit st → phase_at st ≡ Leaving → spent_at st ≡ 0 → left_at st ≡ 0 → m'.at.state ≡ Runs → m'.at.pc ≡ m.at.pc → Same code s T m' a → Done (Form.exit p a Running) 1 m' (own_event code m Act.Return)
+        gone : (m' : Machine) (st : Stage) → m'.own.stage ≡ st → IsAtStage m' Instr.Exit st → phase_at st ≡ Leaving → spent_at st ≡ 0 → left_at st ≡ 0 → m'.at.state ≡ Runs → m'.at.pc ≡ m.at.pc → Same code s T m' a → Done (Form.exit p a Running) 1 m' (own_event code m Act.Return)
         gone m' st e' at phase q3 q4 runs here k = inl (record {
           answer = pos 0;
           go = refl;
@@ -471,14 +471,14 @@ module _ (code : Code) (s : Shape) (statements : List Instr) (T : Elements) (m :
       pace = let q1 = ap spent_at e in omega arith;
     })
 
-    pub exits : (st : Stage) → m.own.stage ≡ st → IsAtStage m Exit st → a.phase ≡ phase_at st → (found : ℕ) → (repeats st found ≡ true → cost ≡ 0)
+    pub exits : (st : Stage) → m.own.stage ≡ st → IsAtStage m Instr.Exit st → a.phase ≡ phase_at st → (found : ℕ) → (repeats st found ≡ true → cost ≡ 0)
         → Done (Form.exit p a (phase_at st)) 1 (after (exit s m st) found) (in_exit code m st)
     exits Rests e at phase found rep = returned e
     exits (Withdraws row) e at phase found rep =
         let z = rep refl in
         let q1 = ap spent_at e in
         let q2 = ap left_at e in
-        stays_in Exit is _ 1 (at_stage m (WithdrawsFrom row found)) (WithdrawsFrom row found) refl tt refl refl same phase (omega arith)
+        stays_in Instr.Exit is _ 1 (at_stage m (WithdrawsFrom row found)) (WithdrawsFrom row found) refl tt refl refl same phase (omega arith)
     exits (WithdrawsFrom row seen) e at phase found rep = each (found == seen)
       where
         each : (b : Bool) → Done (Form.exit p a Leaving) 1 (if b then withdraws m (row + 1) else at_stage m (WithdrawsFrom row found)) None
@@ -487,6 +487,6 @@ module _ (code : Code) (s : Shape) (statements : List Instr) (T : Elements) (m :
             let z = rep refl in
             let q1 = ap spent_at e in
             let q2 = ap left_at e in
-            stays_in Exit is _ 1 (at_stage m (WithdrawsFrom row found)) (WithdrawsFrom row found) refl tt refl refl same phase (omega arith)
+            stays_in Instr.Exit is _ 1 (at_stage m (WithdrawsFrom row found)) (WithdrawsFrom row found) refl tt refl refl same phase (omega arith)
     exits Leaves e at phase found rep = left_now e
     exits _ e at phase found rep = absurd at

@@ -6,7 +6,6 @@ pub mod OfRuns
 pub mod Related
 pub mod Checked
 pub mod Coded
-pub mod Held
 pub mod Made
 pub mod Program
 pub mod Refused

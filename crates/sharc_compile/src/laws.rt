@@ -1,13 +1,13 @@
 //! The laws of code that is made of flat code.
 
-ghost use Rattle.sharc_compile.specs.{Checked.CodeIsChecked, Coded.CodeFollowsFlat, Held.CodeCounts};
+ghost use Rattle.sharc_compile.specs.{Checked.CodeIsChecked, Coded.CodeFollowsFlat};
 ghost use Rattle.sharc_compile.specs.{Made.MadeCodeFollows, Program.ProgramCodeFollows, Runs.RunsFollowSource};
 ghost use Rattle.sharc_compile.specs.Source.{CodeFollowsSource};
 
 use crate::generated_laws::{paths_law, run_paths_law};
-use sharc_flat::form_laws::paths_are_runs;
+use sharc_flat::form_laws::path_laws;
 use sharc_flat::laws::{made_asks_the_same, made_is_framed};
-use sharc_guard::{checked_law, counted_law, framed_law, guarded_law, log_law};
+use sharc_guard::{checked_law, framed_law, guarded_law};
 
 /// The paths of code with consistent results are those of the flat code that it was made of, whichever checks are
 /// dropped: the same events, the same stops, at most five counted turns for each line.
@@ -34,7 +34,7 @@ pub fn source_law()
     ensures { CodeFollowsSource }
 {
     made_law();
-    paths_are_runs();
+    path_laws();
 }
 
 /// And so it is of the code of a program that flattening knows, where its frames have numbers of 32 bits.
@@ -61,18 +61,4 @@ pub fn checks_law()
     ensures { CodeIsChecked }
 {
     checked_law();
-}
-
-/// What a thread of that code counts in its registers, the program holds at its next want, its stop or its end, or it
-/// gives that up on the way there, after all that the code has lowered; and where the thread was refused by A1 to A4,
-/// the program wants what was refused: by A3 an access under a mutex that it does not hold. This is so where the flat
-/// code overwrites no reference and names the mutexes of its locks.
-pub fn held_law()
-    ensures { CodeCounts }
-{
-    paths_law();
-    framed_law();
-    counted_law();
-    log_law();
-    paths_are_runs();
 }

@@ -11,7 +11,7 @@
 //! to the program (specs/Program.antt), and `run_law` from what a thread reports in a run (specs/Runs.antt).
 //! `source_law` does so of any flat code that asks for what the program asks for (specs/Source.antt), and `made_law`
 //! leads to the flat code (specs/Coded.antt); `checks_law` says which accesses come after their checks
-//! (specs/Checked.antt), `held_law` whose the references are that registers have (specs/Held.antt).
+//! (specs/Checked.antt).
 #![tactic(auto)]
 
 mod generated_laws;
@@ -21,5 +21,5 @@ mod making;
 
 pub use generated_laws::{paths_law, run_paths_law};
 pub use generating::generate;
-pub use laws::{checks_law, coded_law, held_law, made_law, program_law, run_law, source_law};
+pub use laws::{checks_law, coded_law, made_law, program_law, run_law, source_law};
 pub use making::code_of;

@@ -2,12 +2,11 @@
 
 ghost use Rattle.sharc_compile_laws.specs.{Names.{CodeHasMain, FunctionsAreNamed}, Paths.{OfTyped, PathsTell}};
 ghost use Rattle.sharc_compile_laws.specs.{Paths.ThreadsTellInRuns, Started.{SpawnedAreThreads, ThreadsMayStart}};
-ghost use Rattle.sharc_compile_laws.specs.{Threads.ThreadsTell, Typed.{TypedCodeCounts, TypedThreadsTell}};
+ghost use Rattle.sharc_compile_laws.specs.{Threads.ThreadsTell, Typed.TypedThreadsTell};
 
-use crate::flattened::{made_locks_stand, typed_is_level};
-use sharc_compile::{held_law, program_law, run_law};
+use sharc_compile::{program_law, run_law};
 use sharc_ctype_laws::laws::{has_main, one_function_of_name, spawns_threads};
-use sharc_flat_laws::laws::{made_spawns, typed_asks_the_same, typed_is_framed, typed_suits};
+use sharc_flat_laws::laws::{made_spawns, typed_suits};
 
 /// What a thread reports in a checked run of the code of a program, in any interleaving, is what the program asks for
 /// by the answers of these events, after the Started of a function at its name; where the results of the paths of all
@@ -44,18 +43,6 @@ pub fn threads_may_start()
     has_main();
     one_function_of_name();
     spawns_threads();
-}
-
-/// What the registers of a thread of that code have, the program holds or gives up before it asks for more; and it
-/// wants what A1 to A4 refuse.
-pub fn typed_code_counts()
-    ensures { TypedCodeCounts }
-{
-    typed_asks_the_same();
-    typed_is_framed();
-    typed_is_level();
-    made_locks_stand();
-    held_law();
 }
 
 /// The functions of the code are those of the program by their numbers, and the code's first function is `main`.

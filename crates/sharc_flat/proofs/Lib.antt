@@ -1,5 +1,6 @@
 mod Imports
 pub mod PathRuns
+pub mod Quiet
 pub mod Banks
 pub mod Runs
 pub mod Agreeing

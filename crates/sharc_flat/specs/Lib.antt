@@ -1,5 +1,6 @@
 pub mod Machine
 pub mod Path
+pub mod Quiet
 pub mod Framed
 pub mod Made
 pub mod Frames

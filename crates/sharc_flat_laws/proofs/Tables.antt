@@ -1,5 +1,8 @@
--- What flattened code spawns, and its tables.
-use Rattle.sharc_flat_laws.proofs.{Imports.{◌≡◌, ℕ, zero, suc, ◌+◌, ◌^◌, ◌<◌, List, [], ◌∷◌, length, Option, Some, refl, sym, ap, ◌∙◌, subst, arith, slice_get, Contains-append_right, IsSomeAnd, slice_index, AllByRecursion, Contains, expressions_in, Expression, spawn, Function, Named, Row, GlobalCells, Text, GlobalsFit, of_all, spawns, Resolution, function_at, functions_in, globals_in, named_at, MeetsGlobals, SpawnsByName, SpawnsNameFunctions, SpawnsThreads, WithinLimits, number_named, Assignment, Op, functions_code, rows_of, function_code, names_of, AreLaid, AreNamed, with_texts, globals_of, SpawnMeets, IsSpawned, MadeSpawns, MadeTablesFit, inside}, Spawning.{AllMeet, Each, functions_ask}, Words.{words, globals_fit}}
+-- What flattened code spawns, where it waits, and its tables.
+use Rattle.sharc_flat_laws.proofs.{Imports.{◌≡◌, ℕ, zero, suc, ◌+◌, ◌^◌, ◌<◌, ◌≤◌, List, [], ◌∷◌, length, Option, Some, refl, sym, ap, ◌∙◌, subst, arith, slice_get, Contains-append_right, IsSomeAnd, slice_index, AllByRecursion, Contains, expressions_in, Expression, spawn, Function, Named, Row, GlobalCells, Text, GlobalsFit, of_all, spawns, Resolution, function_at, functions_in, globals_in, named_at, MeetsGlobals, SpawnsByName, SpawnsNameFunctions, SpawnsThreads, WithinLimits, number_named, Assignment, Op, functions_code, rows_of, function_code, names_of, AreLaid, AreNamed, with_texts, globals_of, SpawnMeets, IsSpawned, MadeSpawns, MadeTablesFit, inside}, Spawning.{AllMeet, OpMeets, functions_meet}, Words.{words, globals_fit}}
+use Rattle.sharc_code.specs.declared.instr.Cell.{Cell}
+use Rattle.sharc_flat.specs.{Laid.told_by, declared.op.Spot.Spot}
+use Rattle.sharc_flat_laws.specs.Tables.{AllWait, IsWaited, MadeIsPast, MadeWaits, NamesGlobal, OpPast}
 
 -- ---- lists
 named_count : (bytes : List ℕ) (told : List Row) (names : List (List ℕ)) (made : List Row) → AreNamed bytes told names made → length made ≡ length told
@@ -12,24 +15,58 @@ row_count m globals pc [] = refl
 row_count m globals pc (f ∷ rest) = ap suc (row_count m globals (pc + length (function_code m globals pc f)) rest)
 
 -- ---- operations with other texts
-told_meets : (Q : ℕ → Type 0) (lvalue lock : Text) (o : Op) → SpawnMeets Q o → SpawnMeets Q (with_texts lvalue lock o)
-told_meets Q lvalue lock (Op.Spawn i f from spot) h = h
-told_meets Q lvalue lock _ h = tt
+told_two : (r : Resolution) (bytes : List ℕ) (c : Cell) (q : ℕ) (mutex : Cell) (a b : Spot) (rest ps : List Op) → AreLaid r bytes (Op.Unlock q mutex a ∷ Op.CondWait c b ∷ rest) ps → IsWaited c ps
+told_two r bytes c q mutex a b rest [] h = absurd h
+told_two r bytes c q mutex a b rest (p ∷ []) h = absurd h.1
+told_two r bytes c q mutex a b rest (p ∷ (w ∷ ps)) h = record {
+  register = q;
+  mutex = mutex;
+  unlock_spot = told_by h.0.lvalue h.0.lock a;
+  wait_spot = told_by h.1.0.lvalue h.1.0.lock b;
+  rest = ps;
+  is = ap (λ p. p ∷ w ∷ ps) h.0.is ∙ ap (λ w. Op.Unlock q mutex (told_by h.0.lvalue h.0.lock a) ∷ w ∷ ps) h.1.0.is;
+}
 
-laid_meet : (Q : ℕ → Type 0) (r : Resolution) (bytes : List ℕ) (told made : List Op) → AreLaid r bytes told made → AllMeet Q told → AllMeet Q made
-laid_meet Q r bytes [] [] l h = tt
-laid_meet Q r bytes (o ∷ os) (p ∷ ps) l h = (subst (SpawnMeets Q) (sym l.0.is) (told_meets Q l.0.lvalue l.0.lock o h.0), laid_meet Q r bytes os ps l.1 h.1)
-laid_meet Q r bytes [] (p ∷ ps) l h = absurd l
-laid_meet Q r bytes (o ∷ os) [] l h = absurd l
+module _ (Q L : ℕ → Type 0) where
+  told_meets : (r : Resolution) (bytes : List ℕ) (lvalue lock : Text) (o : Op) (os ps : List Op) → AreLaid r bytes os ps → OpMeets Q L o os → OpMeets Q L (with_texts lvalue lock o) ps
+  told_meets r bytes lvalue lock (Op.Spawn i f from spot) os ps l h = h
+  told_meets r bytes lvalue lock (Op.GlobalBounds i elements cells field spot) os ps l h = h
+  told_meets r bytes lvalue lock (Op.CondEnter c spot) os ps l h = told_two r bytes c h.register h.mutex h.unlock_spot h.wait_spot h.rest ps (subst (λ os. AreLaid r bytes os ps) h.is l)
+  told_meets r bytes lvalue lock _ os ps l h = tt
 
-meets_at : (Q : ℕ → Type 0) (lines : List Op) (n : ℕ) (o : Op) → AllMeet Q lines → slice_get lines n ≡ Some o → SpawnMeets Q o
+  laid_meet : (r : Resolution) (bytes : List ℕ) (told made : List Op) → AreLaid r bytes told made → AllMeet Q L told → AllMeet Q L made
+  laid_meet r bytes [] [] l h = tt
+  laid_meet r bytes (o ∷ os) (p ∷ ps) l h = (subst (λ p. OpMeets Q L p ps) (sym l.0.is) (told_meets r bytes l.0.lvalue l.0.lock o os ps l.1 h.0), laid_meet r bytes os ps l.1 h.1)
+  laid_meet r bytes [] (p ∷ ps) l h = absurd l
+  laid_meet r bytes (o ∷ os) [] l h = absurd l
+
+  all_spawn : (os : List Op) → AllMeet Q L os → AllByRecursion (SpawnMeets Q) os
+  all_spawn [] h = tt
+  all_spawn (Op.Spawn i f from spot ∷ os) h = (h.0, all_spawn os h.1)
+  all_spawn (_ ∷ os) h = (tt, all_spawn os h.1)
+
+  all_wait : (os : List Op) → AllMeet Q L os → AllWait os
+  all_wait [] h = tt
+  all_wait (Op.CondEnter c spot ∷ os) h = (h.0, all_wait os h.1)
+  all_wait (_ ∷ os) h = (tt, all_wait os h.1)
+
+  all_past : ((n : ℕ) → L n → 2 ≤ n) → (os : List Op) → AllMeet Q L os → AllByRecursion OpPast os
+  all_past low [] h = tt
+  all_past low (Op.GlobalBounds i elements cells field spot ∷ os) h = (low field h.0, all_past low os h.1)
+  all_past low (_ ∷ os) h = (tt, all_past low os h.1)
+
+meets_at : (Q : ℕ → Type 0) (lines : List Op) (n : ℕ) (o : Op) → AllByRecursion (SpawnMeets Q) lines → slice_get lines n ≡ Some o → SpawnMeets Q o
 meets_at Q [] n o h e = absurd (cc)
 meets_at Q (x ∷ lines) zero o h e = let s : x ≡ o = cc in subst (SpawnMeets Q) s h.0
 meets_at Q (x ∷ lines) (suc n) o h e = meets_at Q lines n o h.1 e
 
 -- ---- what the expressions of each function spawn
+abbrev SpawnsOne : (ℕ → Type 0) → Resolution → Expression → Type 0
+SpawnsOne Q r (spawn s f a) = Q (number_named (named_at r f.site.token))
+SpawnsOne Q r _ = Unit {0}
+
 module _ (r : Resolution) where
-  each_named : (es : List Expression) → AllByRecursion (SpawnsByName r) es → ((token k : ℕ) → Contains (of_all spawns es) token → named_at r token ≡ Named.Function k → IsSpawned r k) → Each (IsSpawned r) r es
+  each_named : (es : List Expression) → AllByRecursion (SpawnsByName r) es → ((token k : ℕ) → Contains (of_all spawns es) token → named_at r token ≡ Named.Function k → IsSpawned r k) → AllByRecursion (SpawnsOne (IsSpawned r) r) es
   each_named [] all h = tt
   each_named (spawn s f a ∷ es) all h = (
     subst (λ what. IsSpawned r (number_named what)) (sym all.0.1) (h f.site.token all.0.0 (0, omega arith, refl) all.0.1),
@@ -38,7 +75,7 @@ module _ (r : Resolution) where
   each_named (_ ∷ es) all h = (tt, each_named es all.1 h)
 
   each_from : (fs : List Function) (k : ℕ) → ((n : ℕ) (f : Function) → slice_get fs n ≡ Some f → function_at r (k + n) ≡ Some f) → AllByRecursion (λ f. AllByRecursion (SpawnsByName r) (expressions_in f)) fs
-      → AllByRecursion (λ f. Each (IsSpawned r) r (expressions_in f)) fs
+      → AllByRecursion (λ f. AllByRecursion (SpawnsOne (IsSpawned r) r) (expressions_in f)) fs
   each_from [] k h all = tt
   each_from (f ∷ rest) k h all = (
     each_named (expressions_in f) all.0 (λ token j has e. (k + 0, subst (λ (o : Option Function). IsSomeAnd o (λ f. (t : ℕ) × Contains (of_all spawns (expressions_in f)) t × (named_at r t ≡ Named.Function j))) (sym (h 0 f refl)) (token, has, e))),
@@ -52,7 +89,32 @@ made_spawns law m resolved placed low code made =
     let fs = functions_in r.program.items in
     let gs = globals_of r in
     let named_all = each_from r fs 0 (λ n f e. let z : 0 + n ≡ n = omega arith in ap (function_at r) z ∙ e) (law r resolved placed low) in
-    laid_meet (IsSpawned r) r code.texts.items (functions_code m gs 0 fs) code.lines.items made.lays.lines (functions_ask (IsSpawned r) m gs 0 fs named_all)
+    all_spawn (IsSpawned r) (λ n. Unit {0}) code.lines.items (laid_meet (IsSpawned r) (λ n. Unit {0}) r code.texts.items (functions_code m gs 0 fs) code.lines.items made.lays.lines
+    (functions_meet (IsSpawned r) (λ n. Unit {0}) (SpawnsOne (IsSpawned r)) (λ q s f a h. h) m gs 0 fs (λ f a h e n. tt) named_all))
+
+pub made_waits : MadeWaits
+made_waits m code made =
+    let any : ℕ → Type 0 = λ n. Unit {0} in
+    let fs = functions_in m.typed.program.items in
+    let gs = globals_of m.typed in
+    all_wait any any code.lines.items (laid_meet any any m.typed code.texts.items (functions_code m gs 0 fs) code.lines.items made.lays.lines (functions_meet any any (λ r e. Unit {0}) (λ r s f a h. tt) m gs 0 fs (λ f a h e n. tt) (all_any fs)))
+  where
+    each_any : (es : List Expression) → AllByRecursion (λ e. Unit {0}) es
+    each_any [] = tt
+    each_any (e ∷ es) = (tt, each_any es)
+
+    all_any : (fs : List Function) → AllByRecursion (λ f. AllByRecursion (λ e. Unit {0}) (expressions_in f)) fs
+    all_any [] = tt
+    all_any (f ∷ rest) = (each_any (expressions_in f), all_any rest)
+
+pub made_is_past : MadeIsPast
+made_is_past m there past code made =
+    let any : ℕ → Type 0 = λ n. Unit {0} in
+    let low : ℕ → Type 0 = λ n. 2 ≤ n in
+    let fs = functions_in m.typed.program.items in
+    let gs = globals_of m.typed in
+    all_past any low (λ n h. h) code.lines.items (laid_meet any low m.typed code.texts.items (functions_code m gs 0 fs) code.lines.items made.lays.lines
+    (functions_meet any low NamesGlobal (λ r s f a h. tt) m gs 0 fs (λ f a h e n. let le = past a h e in omega (arith, le)) there))
 
 pub fits : WithinLimits → MeetsGlobals → SpawnsThreads → MadeSpawns → MadeTablesFit
 fits limits globals_meet threads spawned m resolved placed low code made =

@@ -1,5 +1,5 @@
 -- What globals hold at first are words, and globals lie one after the other.
-use Rattle.sharc_flat_laws.proofs.Imports.{◌≡◌, ℕ, zero, suc, ℤ, pos, negsuc, ◌+◌, ◌*◌, ◌/◌, ◌^◌, ◌<◌, ◌≤◌, inl, inr, Bool, true, false, cond, List, [], ◌∷◌, ◌++◌, length, take, replicate, Some, refl, sym, subst, arith, neg_ℤ, slice_index, slice_index_or, unsigned_abs, AllByRecursion, Base, Int, Char, Long, Mutex, Void, Struct, WrittenType, Constant, Number, Character, Null, GlobalDefinition, GlobalForm, Initial, word_of, GlobalsFit, first_place, end_place, no_global, Resolution, IsHeldBy, MeetsInitial, MeetsGlobal, number_of, constant_value, form_value, cells_in, granules_in, globals_from, all_granules, first_words, all_first_words, half}
+use Rattle.sharc_flat_laws.proofs.Imports.{◌≡◌, ℕ, zero, suc, ℤ, pos, negsuc, ◌+◌, ◌*◌, ◌^◌, ◌<◌, ◌≤◌, inl, inr, Bool, true, false, cond, List, [], ◌∷◌, ◌++◌, length, take, replicate, Some, refl, sym, subst, arith, neg_ℤ, slice_index, slice_index_or, unsigned_abs, AllByRecursion, Base, Int, Char, Long, Mutex, Void, Struct, WrittenType, Constant, Number, Character, Null, GlobalDefinition, GlobalForm, Initial, word_of, GlobalsFit, first_place, end_place, no_global, Resolution, IsHeldBy, MeetsInitial, MeetsGlobal, number_of, constant_value, form_value, cells_in, granules_in, globals_from, all_granules, first_words, all_first_words, half}
 
 -- ---- words
 -- a number of 63 bits and a sign is a word

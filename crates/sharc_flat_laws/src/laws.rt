@@ -1,7 +1,7 @@
 // The laws, each the contract of a function that does nothing.
 
 ghost use Rattle.sharc_flat_laws.specs.Stands.{FitAreUnguarded, LocksAreFound, TypedAsksTheSame, TypedIsFramed};
-ghost use Rattle.sharc_flat_laws.specs.{Stands.TypedSuits, Tables.{MadeSpawns, MadeTablesFit}};
+ghost use Rattle.sharc_flat_laws.specs.{Stands.TypedSuits, Tables.{MadeIsPast, MadeSpawns, MadeTablesFit, MadeWaits}};
 
 use sharc_ctype_laws::laws::{
     all_fair, are_plain, each_names_found, each_names_itself, each_path_found, each_type_found,
@@ -57,6 +57,16 @@ pub fn made_spawns()
 {
     spawns_name_functions();
 }
+
+/// In what flattening makes each CondEnter is followed by an Unlock and a CondWait of the same cell.
+pub fn made_waits()
+    ensures { MadeWaits }
+{}
+
+/// In what flattening makes no cell that is found by an index is one of granule 0.
+pub fn made_is_past()
+    ensures { MadeIsPast }
+{}
 
 /// Its tables are in their ranges: its functions are few, `main` and what it spawns are among them, its globals lie one
 /// after the other within their granules, and what they hold at first are words.

@@ -1,5 +1,5 @@
 -- Each access comes after its check.
-use Rattle.sharc_guard.proofs.{Imports.{within as get_inside, ◌≡◌, ℕ, zero, suc, ◌+◌, ◌-◌, ◌<◌, ◌≤◌, ◌⊎◌, inl, inr, Bool, true, false, List, [], ◌∷◌, ◌++◌, length, map, refl, sym, ap, ◌∙◌, subst, ⊎_elim, arith, Some, None, slice_get, cond, cases_lt, append_assoc, length-map, Function, PlaceMode, Dynamic, LockedGlobal, LockedSibling, LockedThrough, LockedLoaded, SourcePlace, Global, Object, Char, Instr, Start, Exit, ChkRead, ChkWrite, ChkLock, ChkLockLoaded, Load, Store, LoadRef, Exchange, TakeCell, Op, Spot, Flat, Program, source_at, expand, head, body, tail, own, width, offset, place, guarded, entered_at, source_of, check_under, access_of, IsCheckOf, LeadsTo, IsNoTarget, IsAfterCheck, IsCheckedAt}, Placing.{HasAt, entered_is, width_is, stands, place_next, source_is}, Framing.{there_is, AllIn, all_append, all_at, has_at, head_all}}
+use Rattle.sharc_guard.proofs.{Imports.{within as get_inside, ◌≡◌, ℕ, zero, suc, ◌+◌, ◌-◌, ◌<◌, ◌≤◌, ◌⊎◌, inl, inr, Bool, true, false, List, [], ◌∷◌, ◌++◌, length, map, refl, sym, ap, ◌∙◌, subst, ⊎_elim, arith, Some, None, slice_get, cond, cases_lt, append_assoc, length-map, Function, PlaceMode, Dynamic, LockedGlobal, LockedSibling, LockedThrough, LockedLoaded, SourcePlace, Global, Object, Char, Instr, Op, Spot, Flat, Program, source_at, expand, head, body, tail, own, width, offset, place, guarded, entered_at, source_of, check_under, access_of, IsCheckOf, LeadsTo, IsNoTarget, IsAfterCheck, IsCheckedAt}, Placing.{HasAt, entered_is, width_is, stands, place_next, source_is}, Framing.{there_is, AllIn, all_append, all_at, has_at, head_all}}
 use Rattle.sharc_guard.specs.Checked.{Access}
 
 -- ---- places grow
@@ -90,8 +90,8 @@ module _ (flat : Flat) (dropped : ℕ → Bool) where
       }
 
   no_jump : (q : ℕ) (i : Instr) (pc : ℕ) → slice_get p.statements q ≡ Some i → LeadsTo i pc → (k : ℕ) × (pl k ≡ pc)
-  no_jump zero i pc e h = let s : Start 0 ≡ i = cc in absurd (subst (λ i. LeadsTo i pc) (sym s) h)
-  no_jump (suc zero) i pc e h = let s : Exit ≡ i = cc in absurd (subst (λ i. LeadsTo i pc) (sym s) h)
+  no_jump zero i pc e h = let s : Instr.Start 0 ≡ i = cc in absurd (subst (λ i. LeadsTo i pc) (sym s) h)
+  no_jump (suc zero) i pc e h = let s : Instr.Exit ≡ i = cc in absurd (subst (λ i. LeadsTo i pc) (sym s) h)
   no_jump (suc (suc q)) i pc e h =
       let w = at_line (suc (suc q)) i (omega arith) e in
       all_at ToLine (expand pl (dropped w.line) w.line w.op_is) w.step i (expand_to (dropped w.line) w.line w.op_is) w.statement pc h
@@ -121,14 +121,14 @@ module _ (flat : Flat) (dropped : ℕ → Bool) where
 
   -- ---- accesses
   -- an access under a mode, after what the mode asks for
-  checked : (n pc : ℕ) (o : Op) (e : slice_get flat.lines n ≡ Some o) (drop : Bool) (spot : Spot) (mode : PlaceMode) (a : Access) (dynamic : Instr) (rest : List Instr) → a.site ≡ n → dynamic ≡ (cond a.is_write (ChkWrite a.cell a.site) (ChkRead a.cell a.site))
+  checked : (n pc : ℕ) (o : Op) (e : slice_get flat.lines n ≡ Some o) (drop : Bool) (spot : Spot) (mode : PlaceMode) (a : Access) (dynamic : Instr) (rest : List Instr) → a.site ≡ n → dynamic ≡ (cond a.is_write (Instr.ChkWrite a.cell a.site) (Instr.ChkRead a.cell a.site))
       → (drop ≡ true → dropped n ≡ true) → expand pl (dropped n) n o ≡ check_under drop dynamic spot n mode ++ rest → 0 < length rest → pc ≡ pl n + length (check_under drop dynamic spot n mode) → IsCheckedAt dropped p pc mode a
   checked n pc o e true spot Dynamic a dynamic rest s d dr x lt q = inl (ap dropped s ∙ dr refl)
   checked n pc o e false spot Dynamic a dynamic rest s d dr x lt q = inr (behind n pc o e Dynamic a dynamic rest x lt q d)
-  checked n pc o e drop spot (LockedGlobal g pl2) a dynamic rest s d dr x lt q = behind n pc o e (LockedGlobal g pl2) a (ChkLock (Global g pl2) n) rest x lt q (ap (ChkLock (Global g pl2)) (sym s))
-  checked n pc o e drop spot (LockedSibling f m) a dynamic rest s d dr x lt q = behind n pc o e (LockedSibling f m) a (ChkLock spot.lock n) rest x lt q (spot.lock, ap (ChkLock spot.lock) (sym s))
-  checked n pc o e drop spot (LockedThrough r pl2) a dynamic rest s d dr x lt q = behind n pc o e (LockedThrough r pl2) a (ChkLock (Object r pl2) n) rest x lt q (ap (ChkLock (Object r pl2)) (sym s))
-  checked n pc o e drop spot LockedLoaded a dynamic rest s d dr x lt q = behind n pc o e LockedLoaded a (ChkLockLoaded n) rest x lt q (ap ChkLockLoaded (sym s))
+  checked n pc o e drop spot (LockedGlobal g pl2) a dynamic rest s d dr x lt q = behind n pc o e (LockedGlobal g pl2) a (Instr.ChkLock (Global g pl2) n) rest x lt q (ap (Instr.ChkLock (Global g pl2)) (sym s))
+  checked n pc o e drop spot (LockedSibling f m) a dynamic rest s d dr x lt q = behind n pc o e (LockedSibling f m) a (Instr.ChkLock spot.lock n) rest x lt q (spot.lock, ap (Instr.ChkLock spot.lock) (sym s))
+  checked n pc o e drop spot (LockedThrough r pl2) a dynamic rest s d dr x lt q = behind n pc o e (LockedThrough r pl2) a (Instr.ChkLock (Object r pl2) n) rest x lt q (ap (Instr.ChkLock (Object r pl2)) (sym s))
+  checked n pc o e drop spot LockedLoaded a dynamic rest s d dr x lt q = behind n pc o e LockedLoaded a (Instr.ChkLockLoaded n) rest x lt q (ap Instr.ChkLockLoaded (sym s))
   checked n pc o e drop spot _ a dynamic rest s d dr x lt q = tt
 
   -- the other statements access nothing
@@ -175,7 +175,7 @@ module _ (flat : Flat) (dropped : ℕ → Bool) where
 
   access_checked : (n : ℕ) (o : Op) (e : slice_get flat.lines n ≡ Some o) (j : ℕ) (i : Instr) (a : Access) (drop : Bool) (spot : Spot) (dynamic x : Instr) (a0 : Access) (ts : List Instr)
       → slice_get (check_under drop dynamic spot n spot.mode ++ x ∷ ts) j ≡ Some i → access_of i ≡ Some a → AllIn Idle (check_under drop dynamic spot n spot.mode) → AllIn Idle ts → access_of x ≡ Some a0
-      → a0.site ≡ n → dynamic ≡ (cond a0.is_write (ChkWrite a0.cell a0.site) (ChkRead a0.cell a0.site)) → (drop ≡ true → dropped n ≡ true) → expand pl (dropped n) n o ≡ check_under drop dynamic spot n spot.mode ++ x ∷ ts → (source_of o).mode ≡ spot.mode
+      → a0.site ≡ n → dynamic ≡ (cond a0.is_write (Instr.ChkWrite a0.cell a0.site) (Instr.ChkRead a0.cell a0.site)) → (drop ≡ true → dropped n ≡ true) → expand pl (dropped n) n o ≡ check_under drop dynamic spot n spot.mode ++ x ∷ ts → (source_of o).mode ≡ spot.mode
       → IsCheckedAt dropped p (pl n + j) (source_at p a.site).mode a
   access_checked n o e j i a drop spot dynamic x a0 ts st acc hi ti ax s d dr whole md =
       let r = found_own (check_under drop dynamic spot n spot.mode) x ts j i a hi ti st acc in
@@ -190,23 +190,23 @@ module _ (flat : Flat) (dropped : ℕ → Bool) where
 
   by_op : (n : ℕ) (o : Op) (e : slice_get flat.lines n ≡ Some o) (j : ℕ) (i : Instr) (a : Access) → Accesses o → slice_get (expand pl (dropped n) n o) j ≡ Some i → access_of i ≡ Some a → IsCheckedAt dropped p (pl n + j) (source_at p a.site).mode a
   by_op n (Op.Load r cell spot) e j i a w st acc =
-      let wh = whole_is (dropped n) n (Op.Load r cell spot) (Load r cell n) refl in
-      access_checked n (Op.Load r cell spot) e j i a (dropped n) spot (ChkRead cell n) (Load r cell n) record { cell = cell; site = n; is_write = false } [] (sym (ap (λ xs. slice_get xs j) wh) ∙ st) acc (head_idle (dropped n) n (Op.Load r cell spot)) tt refl refl refl (λ k. k) wh refl
+      let wh = whole_is (dropped n) n (Op.Load r cell spot) (Instr.Load r cell n) refl in
+      access_checked n (Op.Load r cell spot) e j i a (dropped n) spot (Instr.ChkRead cell n) (Instr.Load r cell n) record { cell = cell; site = n; is_write = false } [] (sym (ap (λ xs. slice_get xs j) wh) ∙ st) acc (head_idle (dropped n) n (Op.Load r cell spot)) tt refl refl refl (λ k. k) wh refl
   by_op n (Op.Store r cell spot) e j i a w st acc =
-      let wh = whole_is (dropped n) n (Op.Store r cell spot) (Store r cell n) refl in
-      access_checked n (Op.Store r cell spot) e j i a (dropped n) spot (ChkWrite cell n) (Store r cell n) record { cell = cell; site = n; is_write = true } [] (sym (ap (λ xs. slice_get xs j) wh) ∙ st) acc (head_idle (dropped n) n (Op.Store r cell spot)) tt refl refl refl (λ k. k) wh refl
+      let wh = whole_is (dropped n) n (Op.Store r cell spot) (Instr.Store r cell n) refl in
+      access_checked n (Op.Store r cell spot) e j i a (dropped n) spot (Instr.ChkWrite cell n) (Instr.Store r cell n) record { cell = cell; site = n; is_write = true } [] (sym (ap (λ xs. slice_get xs j) wh) ∙ st) acc (head_idle (dropped n) n (Op.Store r cell spot)) tt refl refl refl (λ k. k) wh refl
   by_op n (Op.LoadRef r cell spot) e j i a w st acc =
-      let wh = whole_is (dropped n) n (Op.LoadRef r cell spot) (LoadRef cell n) refl in
-      access_checked n (Op.LoadRef r cell spot) e j i a false spot (ChkRead cell n) (LoadRef cell n) record { cell = cell; site = n; is_write = false } (tail (Op.LoadRef r cell spot)) (sym (ap (λ xs. slice_get xs j) wh) ∙ st) acc (head_idle (dropped n) n (Op.LoadRef r cell spot)) (tail_idle (Op.LoadRef r cell spot)) refl refl refl (λ k. absurd (cc)) wh refl
+      let wh = whole_is (dropped n) n (Op.LoadRef r cell spot) (Instr.LoadRef cell n) refl in
+      access_checked n (Op.LoadRef r cell spot) e j i a false spot (Instr.ChkRead cell n) (Instr.LoadRef cell n) record { cell = cell; site = n; is_write = false } (tail (Op.LoadRef r cell spot)) (sym (ap (λ xs. slice_get xs j) wh) ∙ st) acc (head_idle (dropped n) n (Op.LoadRef r cell spot)) (tail_idle (Op.LoadRef r cell spot)) refl refl refl (λ k. absurd (cc)) wh refl
   by_op n (Op.StoreRef r cell spot) e j i a w st acc =
-      let wh = whole_is (dropped n) n (Op.StoreRef r cell spot) (Exchange r cell n) refl in
-      access_checked n (Op.StoreRef r cell spot) e j i a false spot (ChkWrite cell n) (Exchange r cell n) record { cell = cell; site = n; is_write = true } (tail (Op.StoreRef r cell spot)) (sym (ap (λ xs. slice_get xs j) wh) ∙ st) acc (head_idle (dropped n) n (Op.StoreRef r cell spot)) (tail_idle (Op.StoreRef r cell spot)) refl refl refl (λ k. absurd (cc)) wh refl
+      let wh = whole_is (dropped n) n (Op.StoreRef r cell spot) (Instr.Exchange r cell n) refl in
+      access_checked n (Op.StoreRef r cell spot) e j i a false spot (Instr.ChkWrite cell n) (Instr.Exchange r cell n) record { cell = cell; site = n; is_write = true } (tail (Op.StoreRef r cell spot)) (sym (ap (λ xs. slice_get xs j) wh) ∙ st) acc (head_idle (dropped n) n (Op.StoreRef r cell spot)) (tail_idle (Op.StoreRef r cell spot)) refl refl refl (λ k. absurd (cc)) wh refl
   by_op n (Op.TakeCell r cell spot) e j i a w st acc =
-      let wh = whole_is (dropped n) n (Op.TakeCell r cell spot) (TakeCell r cell n) refl in
-      access_checked n (Op.TakeCell r cell spot) e j i a false spot (ChkWrite cell n) (TakeCell r cell n) record { cell = cell; site = n; is_write = true } [] (sym (ap (λ xs. slice_get xs j) wh) ∙ st) acc (head_idle (dropped n) n (Op.TakeCell r cell spot)) tt refl refl refl (λ k. absurd (cc)) wh refl
+      let wh = whole_is (dropped n) n (Op.TakeCell r cell spot) (Instr.TakeCell r cell n) refl in
+      access_checked n (Op.TakeCell r cell spot) e j i a false spot (Instr.ChkWrite cell n) (Instr.TakeCell r cell n) record { cell = cell; site = n; is_write = true } [] (sym (ap (λ xs. slice_get xs j) wh) ∙ st) acc (head_idle (dropped n) n (Op.TakeCell r cell spot)) tt refl refl refl (λ k. absurd (cc)) wh refl
   by_op n (Op.LoadGuard cell spot) e j i a w st acc =
-      let wh = whole_is (dropped n) n (Op.LoadGuard cell spot) (LoadRef cell n) refl in
-      let r = found_own [] (LoadRef cell n) [] j i a tt tt (sym (ap (λ xs. slice_get xs j) wh) ∙ st) acc in
+      let wh = whole_is (dropped n) n (Op.LoadGuard cell spot) (Instr.LoadRef cell n) refl in
+      let r = found_own [] (Instr.LoadRef cell n) [] j i a tt tt (sym (ap (λ xs. slice_get xs j) wh) ∙ st) acc in
       let same : Some record { cell = cell; site = n; is_write = false } ≡ Some a = ap access_of r.1 ∙ acc in
       let a_is : record { cell = cell; site = n; is_write = false } ≡ a = cc in
       subst (λ (a : Access). IsCheckedAt dropped p (pl n + j) (source_at p a.site).mode a) a_is
@@ -214,8 +214,8 @@ module _ (flat : Flat) (dropped : ℕ → Bool) where
   by_op n _ e j i a w st acc = absurd w
 
   pub accesses_checked : (pc : ℕ) (i : Instr) (a : Access) → slice_get p.statements pc ≡ Some i → access_of i ≡ Some a → IsCheckedAt dropped p pc (source_at p a.site).mode a
-  accesses_checked zero i a e acc = let s : Start 0 ≡ i = cc in let z : None ≡ Some a = ap access_of s ∙ acc in absurd (cc)
-  accesses_checked (suc zero) i a e acc = let s : Exit ≡ i = cc in let z : None ≡ Some a = ap access_of s ∙ acc in absurd (cc)
+  accesses_checked zero i a e acc = let s : Instr.Start 0 ≡ i = cc in let z : None ≡ Some a = ap access_of s ∙ acc in absurd (cc)
+  accesses_checked (suc zero) i a e acc = let s : Instr.Exit ≡ i = cc in let z : None ≡ Some a = ap access_of s ∙ acc in absurd (cc)
   accesses_checked (suc (suc q)) i a e acc =
       let w = at_line (suc (suc q)) i (omega arith) e in
       subst (λ pc. IsCheckedAt dropped p pc (source_at p a.site).mode a) (sym w.pc_is) (⊎_elim

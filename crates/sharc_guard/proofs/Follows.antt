@@ -1,5 +1,5 @@
 -- One operation of flat code and its own guarded statement.
-use Rattle.sharc_guard.proofs.{Imports.{◌≡◌, ℕ, ℤ, zero, suc, pos, negsuc, ◌+◌, ◌*◌, ◌<◌, ◌⊎◌, inl, inr, Bool, true, false, not, List, [], ◌∷◌, ◌++◌, length, map, refl, sym, ap, ◌∙◌, subst, arith, Some, None, Option, Result, Ok, Err, nat_lt, slice_get, nat_tests, ne_eqb, length-append, length-map, append-nil, nat_eq, if◌then◌else◌, Act, CellAt, CellMode, SourceEvent, Trap, Taken, Function, SourcePlace, Width, Char, Int, Cell, Object as InObject, ObjectAt, Register, Instr, RaiseLoaded, Lower, MoveReference, LoadRef, TakeCell, Lock, Spawn, Exit, Operator, computed, negated, elements_made, kind_of, made_cell, Readonly, is_positive as positive, GivenUp, Released, Replaced, Emptied, held_mutexes, locked_by, unlocked_by, NULL, is_null, number_of, stopped, ended, event_of, answer_of, Op, Spot, goes, asks, halts, op_turn, after, IsFlat, Leads, IsWide, Program, Thread, Phase, Running, Leaving, Left, Goes, Asks, Halts, Stopped, step, source_at, statement_at, weight, source_of, source_at_spot, compute, negate, body, tail, Resolved, bottom, image}, Holding.{quiet_held, lock_held, unlock_held, funext}, Placing.{HasAt, entered_is, pl, p}, Beside.{variable_same, kind_same}}
+use Rattle.sharc_guard.proofs.{Imports.{◌≡◌, ℕ, ℤ, zero, suc, pos, negsuc, ◌+◌, ◌*◌, ◌<◌, ◌⊎◌, inl, inr, Bool, true, false, not, List, [], ◌∷◌, ◌++◌, length, map, refl, sym, ap, ◌∙◌, subst, arith, Some, None, Option, Result, Ok, Err, nat_lt, slice_get, nat_tests, ne_eqb, length-append, length-map, append-nil, nat_eq, if◌then◌else◌, Act, CellAt, CellMode, SourceEvent, Trap, Taken, Function, SourcePlace, Width, Char, Int, Cell, Object as InObject, ObjectAt, Register, Instr, Operator, computed, negated, elements_made, kind_of, made_cell, Readonly, is_positive as positive, GivenUp, Released, Replaced, Emptied, held_mutexes, locked_by, unlocked_by, NULL, is_null, number_of, stopped, ended, event_of, answer_of, Op, Spot, goes, asks, halts, op_turn, after, IsFlat, Leads, IsWide, Program, Thread, Phase, Running, Leaving, Left, Goes, Asks, Halts, Stopped, step, source_at, statement_at, weight, source_of, source_at_spot, compute, negate, body, tail, Resolved, bottom, image}, Holding.{quiet_held, lock_held, unlock_held, funext}, Placing.{HasAt, entered_is, pl, p}, Beside.{variable_same, kind_same}}
 use Rattle.sharc_code.specs.{Machine.is_positive, Says.variable_of, Runs.put}
 use Rattle.sharc_flat.specs.Machine as Flat
 use Rattle.sharc_guard.specs.Machine as Form
@@ -62,7 +62,7 @@ module _ (dropped : ℕ → Bool) (flat : Flat.Flat) where
   pub record AtEnd (m : Flat.At) (b : Thread) : Type 0 where
     pub steps : ℕ
     pub pc_is : m.pc ≡ length flat.lines + steps
-    pub statement : statement_at g b.pc ≡ Exit
+    pub statement : statement_at g b.pc ≡ Instr.Exit
     pub phase_is : b.phase ≡ leaving steps
     pub function_is : b.function ≡ m.function
     pub events : b.events ≡ m.events
@@ -226,9 +226,9 @@ module _ (dropped : ℕ → Bool) (flat : Flat.Flat) where
           two : q + 1 + 1 ≡ q + 2
           two = omega arith
 
-      settles : (x from : ℕ) → (x ≡ from → ⊥) → HasAt g.statements (q + 1) (MoveReference x from ∷ []) → Near (Flat.next (Flat.settled x from m)) (Form.next (Form.lowered me x))
+      settles : (x from : ℕ) → (x ≡ from → ⊥) → HasAt g.statements (q + 1) (Instr.MoveReference x from ∷ []) → Near (Flat.next (Flat.settled x from m)) (Form.next (Form.lowered me x))
       settles x from ne has = inr (inl (record {
-        statement = MoveReference x from;
+        statement = Instr.MoveReference x from;
         stands = has.0;
         later = Form.next (Form.move_ref (Form.next (Form.lowered me x)) x from);
         goes_there = refl;
@@ -266,10 +266,10 @@ module _ (dropped : ℕ → Bool) (flat : Flat.Flat) where
                   cases true c = value_is
                   cases false c = refl
 
-      loads : (r : ℕ) (x : ℤ) (ev : SourceEvent) → locked_by ev.act ≡ None → unlocked_by ev.act ≡ None → HasAt g.statements (q + 1) (RaiseLoaded r ∷ [])
+      loads : (r : ℕ) (x : ℤ) (ev : SourceEvent) → locked_by ev.act ≡ None → unlocked_by ev.act ≡ None → HasAt g.statements (q + 1) (Instr.RaiseLoaded r ∷ [])
           → Near (Flat.accessed (Flat.next (Flat.set_ref r x (Flat.with_event ev m)))) (Form.next (record me { events = m.events ++ ev ∷ []; lowered = []; pending = x }))
       loads r x ev l u has = inr (inl (record {
-        statement = RaiseLoaded r;
+        statement = Instr.RaiseLoaded r;
         stands = has.0;
         later = Form.next (Form.accessed (Form.set_ref (Form.next (record me { events = m.events ++ ev ∷ []; lowered = []; pending = x })) r x));
         goes_there = refl;
@@ -280,10 +280,10 @@ module _ (dropped : ℕ → Bool) (flat : Flat.Flat) where
         light = refl;
       }))
 
-      exchanges : (r : ℕ) (c : CellAt) (x : ℤ) (ev : SourceEvent) → locked_by ev.act ≡ None → unlocked_by ev.act ≡ None → HasAt g.statements (q + 1) (Lower r ∷ [])
+      exchanges : (r : ℕ) (c : CellAt) (x : ℤ) (ev : SourceEvent) → locked_by ev.act ≡ None → unlocked_by ev.act ≡ None → HasAt g.statements (q + 1) (Instr.Lower r ∷ [])
           → Near (Flat.accessed (Flat.next (Flat.gives_up (Replaced c) (Flat.set_ref r (pos 0) (Flat.with_event ev m))))) (Form.next (Form.accessed (Form.set_ref (record me { events = m.events ++ ev ∷ []; lowered = [] }) r x)))
       exchanges r c x ev l u has = inr (inl (record {
-        statement = Lower r;
+        statement = Instr.Lower r;
         stands = has.0;
         later = Form.next (Form.lowered (Form.next (Form.accessed (Form.set_ref (record me { events = m.events ++ ev ∷ []; lowered = [] }) r x))) r);
         goes_there = refl;
@@ -343,7 +343,7 @@ module _ (dropped : ℕ → Bool) (flat : Flat.Flat) where
             λ y. (pos 0, quiet e lt (Flat.next (Flat.moved r x (Flat.with_event (event_of spot.site (Act.Take (Taken.Local (Flat.variable_of spot.at)) (Flat.take_kind_of spot.at)) (Flat.ref m x)) m))) (event_of spot.site (Act.Take (Taken.Local (Flat.variable_of spot.at)) (Flat.take_kind_of spot.at)) (Flat.ref m x)) refl refl refl refl refl calls),
           ))
 
-      locks : (e : q + 1 ≡ at (m.pc + 1)) (lt : m.pc + 1 < length flat.lines) (cell : Cell) (spot : Spot) (s : source_at g m.pc ≡ source_at_spot spot) → Follow (op_turn flat (Op.Lock cell spot) m) (step g (Lock cell m.pc) me)
+      locks : (e : q + 1 ≡ at (m.pc + 1)) (lt : m.pc + 1 < length flat.lines) (cell : Cell) (spot : Spot) (s : source_at g m.pc ≡ source_at_spot spot) → Follow (op_turn flat (Op.Lock cell spot) m) (step g (Instr.Lock cell m.pc) me)
       locks e lt cell spot s =
           let c = Flat.cell_at flat.globals m cell in
           let ev = event_of spot.site (Act.Lock c) (pos 0) in
@@ -356,7 +356,7 @@ module _ (dropped : ℕ → Bool) (flat : Flat.Flat) where
           by_cell _ c = near e lt (Flat.next (Flat.with_event (event_of spot.site (Act.Lock c) (pos 0)) m)) [] (held_mutexes m.events ++ c ∷ []) (sym (lock_held m.events (event_of spot.site (Act.Lock c) (pos 0)) c refl refl)) refl tt calls
 
       spawns : (e : q + 1 ≡ at (m.pc + 1)) (lt : m.pc + 1 < length flat.lines) (i f : ℕ) (from : Register) (spot : Spot) (s : source_at g m.pc ≡ source_at_spot spot)
-          → Follow (op_turn flat (Op.Spawn i f from spot) m) (step g (Spawn i f from m.pc) me)
+          → Follow (op_turn flat (Op.Spawn i f from spot) m) (step g (Instr.Spawn i f from m.pc) me)
       spawns e lt i f (Register.Int k) spot s =
           told m.pc spot s m (Act.Spawn f (Flat.int m k)) (pos 0) (λ v n. Flat.next (Flat.set_int i v n)) Form.given (λ x b. Form.next (Form.set_int b i x))
           (λ x. (x, quiet e lt (Flat.next (Flat.set_int i x (Flat.with_event (event_of spot.site (Act.Spawn f (Flat.int m k)) x) m))) (event_of spot.site (Act.Spawn f (Flat.int m k)) x) refl refl refl refl refl calls))
@@ -369,7 +369,7 @@ module _ (dropped : ℕ → Bool) (flat : Flat.Flat) where
       positive_same _ = refl
 
       taken_same : (r : ℕ) (cell : Cell) (spot : Spot) → source_at g m.pc ≡ source_at_spot spot
-          → step g (TakeCell r cell m.pc) me ≡ Form.access_at g me m.pc cell (λ c mode. Act.Take (Taken.Cell c mode) (Flat.take_kind_of spot.at)) Form.given (λ x b. Form.next (Form.accessed (Form.set_ref b r x)))
+          → step g (Instr.TakeCell r cell m.pc) me ≡ Form.access_at g me m.pc cell (λ c mode. Act.Take (Taken.Cell c mode) (Flat.take_kind_of spot.at)) Form.given (λ x b. Form.next (Form.accessed (Form.set_ref b r x)))
       taken_same r cell spot s =
           ap (λ k. Form.access_at g me m.pc cell (λ c mode. Act.Take (Taken.Cell c mode) k) Form.given (λ x b. Form.next (Form.accessed (Form.set_ref b r x)))) (ap (λ (sp : SourcePlace). kind_of sp.at) s ∙ kind_same spot.at)
 
@@ -430,7 +430,7 @@ module _ (dropped : ℕ → Bool) (flat : Flat.Flat) where
       follows (Op.LoadGuard cell spot) s lead e has un =
           guarding s
         where
-          guarding : source_at g m.pc ≡ record (source_at_spot spot) { mode = Readonly } → Follow (op_turn flat (Op.LoadGuard cell spot) m) (step g (LoadRef cell m.pc) me)
+          guarding : source_at g m.pc ≡ record (source_at_spot spot) { mode = Readonly } → Follow (op_turn flat (Op.LoadGuard cell spot) m) (step g (Instr.LoadRef cell m.pc) me)
           guarding s = subst (λ (sp : SourcePlace). Follow (op_turn flat (Op.LoadGuard cell spot) m) (Form.asks me sp.site (Act.Read (Form.cell_at g me cell) (Form.mode_of g me (Form.cell_at g me cell) sp.mode)) Form.given (λ x b. Form.next (record b { pending = x })))) (sym s)
               (refl, refl, λ x. (x, quiet (omega arith) lead (Flat.next (record (Flat.with_event _ m) { pending = x })) _ refl refl refl refl refl calls))
       follows (Op.New r count cells spot) s lead e has un =

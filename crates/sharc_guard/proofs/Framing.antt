@@ -1,5 +1,5 @@
 -- The guarded code of framed flat code is well formed.
-use Rattle.sharc_guard.proofs.{Imports.{within as get_inside, slice_get-get_or, ◌≡◌, ℕ, zero, suc, ◌+◌, ◌-◌, ◌*◌, ◌^◌, ◌<◌, ◌≤◌, max, Bool, false, List, [], ◌∷◌, ◌++◌, length, map, fold, refl, sym, ap, ◌∙◌, subst, ⊎_elim, arith, Some, nat_lt, slice_get, lt-ltb, le-ltb, cases_lt, length-append, length-map, if◌then◌else◌, Function, Parameter, PlaceMode, Dynamic, LockedGlobal, LockedSibling, LockedThrough, LockedLoaded, GlobalCells, Cell, Register, Char, Int, Instr, Jump, JumpIfZero, JumpIfNull, Call, Return, Start, Exit, ChkRead, ChkWrite, ChkLock, ChkLockLoaded, TestSole, Clear, IsInGlobal, Op, Spot, Flat, function_of, OpWrites, InLine, OpLeads, IsFramed, WritesWithin, BaseWithin, HandedWithin, HasFewCells, IsBody, IsAtPlace, IsEntry, IsGuarded, Program, function_at, expand, head, body, tail, own, width, offset, place, expanded, guarded, entered_at, check_under}, Placing.{HasAt, entered_is, part_is, width_is, stands, place_next}, Walking.{IsIdle, idle_length, bodied}}
+use Rattle.sharc_guard.proofs.{Imports.{within as get_inside, slice_get-get_or, ◌≡◌, ℕ, zero, suc, ◌+◌, ◌-◌, ◌*◌, ◌^◌, ◌<◌, ◌≤◌, max, Bool, false, List, [], ◌∷◌, ◌++◌, length, map, fold, refl, sym, ap, ◌∙◌, subst, ⊎_elim, arith, Some, nat_lt, slice_get, lt-ltb, le-ltb, cases_lt, length-append, length-map, if◌then◌else◌, Function, Parameter, PlaceMode, Dynamic, LockedGlobal, LockedSibling, LockedThrough, LockedLoaded, GlobalCells, Cell, Register, Char, Int, Instr, IsInGlobal, Op, Spot, Flat, function_of, OpWrites, InLine, OpLeads, IsFramed, WritesWithin, BaseWithin, HandedWithin, HasFewCells, IsBody, IsAtPlace, IsEntry, IsGuarded, Program, function_at, expand, head, body, tail, own, width, offset, place, expanded, guarded, entered_at, check_under}, Placing.{HasAt, entered_is, part_is, width_is, stands, place_next}, Walking.{IsIdle, idle_length, bodied}}
 use Rattle.sharc_guard.specs.Form.{Leads, HasParameter}
 use Rattle.sharc_flat.specs.Framed as Framed
 
@@ -70,30 +70,30 @@ has_at g pc (i ∷ is) (suc j) h lt = let z : pc + suc j ≡ pc + 1 + j = omega 
 
 -- a statement that leads to the next one alone
 abbrev IsPlain : Instr → Type 0
-IsPlain (Jump to) = ⊥
-IsPlain (JumpIfZero r to) = ⊥
-IsPlain (JumpIfNull r to) = ⊥
-IsPlain (Call f i r site) = ⊥
-IsPlain (Return site) = ⊥
-IsPlain (Start site) = ⊥
-IsPlain Exit = ⊥
+IsPlain (Instr.Jump to) = ⊥
+IsPlain (Instr.JumpIfZero r to) = ⊥
+IsPlain (Instr.JumpIfNull r to) = ⊥
+IsPlain (Instr.Call f i r site) = ⊥
+IsPlain (Instr.Return site) = ⊥
+IsPlain (Instr.Start site) = ⊥
+IsPlain Instr.Exit = ⊥
 IsPlain _ = Unit {0}
 
 plain_leads : (p : Program) (owner : ℕ → ℕ) (pc : ℕ) (i : Instr) → IsPlain i → IsBody p owner (owner pc) (pc + 1) → Leads p owner pc i
-plain_leads p owner pc (Jump to) k b = absurd k
-plain_leads p owner pc (JumpIfZero r to) k b = absurd k
-plain_leads p owner pc (JumpIfNull r to) k b = absurd k
-plain_leads p owner pc (Call f i r site) k b = absurd k
-plain_leads p owner pc (Return site) k b = absurd k
-plain_leads p owner pc (Start site) k b = absurd k
-plain_leads p owner pc Exit k b = absurd k
+plain_leads p owner pc (Instr.Jump to) k b = absurd k
+plain_leads p owner pc (Instr.JumpIfZero r to) k b = absurd k
+plain_leads p owner pc (Instr.JumpIfNull r to) k b = absurd k
+plain_leads p owner pc (Instr.Call f i r site) k b = absurd k
+plain_leads p owner pc (Instr.Return site) k b = absurd k
+plain_leads p owner pc (Instr.Start site) k b = absurd k
+plain_leads p owner pc Instr.Exit k b = absurd k
 plain_leads p owner pc _ k b = b
 
 -- ---- what the statements of an operation write
 abbrev Good : ℕ → ℕ → Instr → Type 0
 Good ints refs i = WritesWithin ints refs i × HasFewCells i
 
-check_all : (P : Instr → Type 0) (drop : Bool) (dynamic : Instr) (spot : Spot) (n : ℕ) (mode : PlaceMode) → P dynamic → ((c : Cell) → P (ChkLock c n)) → P (ChkLockLoaded n) → AllIn P (check_under drop dynamic spot n mode)
+check_all : (P : Instr → Type 0) (drop : Bool) (dynamic : Instr) (spot : Spot) (n : ℕ) (mode : PlaceMode) → P dynamic → ((c : Cell) → P (Instr.ChkLock c n)) → P (Instr.ChkLockLoaded n) → AllIn P (check_under drop dynamic spot n mode)
 check_all P false dynamic spot n Dynamic d l m = (d, tt)
 check_all P drop dynamic spot n (LockedGlobal g place) d l m = (l _, tt)
 check_all P drop dynamic spot n (LockedSibling field mutex) d l m = (l _, tt)
@@ -101,13 +101,13 @@ check_all P drop dynamic spot n (LockedThrough r place) d l m = (l _, tt)
 check_all P drop dynamic spot n LockedLoaded d l m = (m, tt)
 check_all P _ dynamic spot n _ d l m = tt
 
-pub head_all : (P : Instr → Type 0) (drop : Bool) (n : ℕ) (o : Op) → ((c : Cell) → P (ChkRead c n)) → ((c : Cell) → P (ChkWrite c n)) → ((c : Cell) → P (ChkLock c n)) → P (ChkLockLoaded n)
-    → ((r : ℕ) → P (TestSole r n)) → ((r c : ℕ) → P (Clear r c)) → AllIn P (head drop n o)
-head_all P drop n (Op.Load i cell spot) rd wr l m s c = check_all P drop (ChkRead cell n) spot n spot.mode (rd cell) l m
-head_all P drop n (Op.Store i cell spot) rd wr l m s c = check_all P drop (ChkWrite cell n) spot n spot.mode (wr cell) l m
-head_all P drop n (Op.LoadRef r cell spot) rd wr l m s c = check_all P false (ChkRead cell n) spot n spot.mode (rd cell) l m
-head_all P drop n (Op.StoreRef r cell spot) rd wr l m s c = check_all P false (ChkWrite cell n) spot n spot.mode (wr cell) l m
-head_all P drop n (Op.TakeCell r cell spot) rd wr l m s c = check_all P false (ChkWrite cell n) spot n spot.mode (wr cell) l m
+pub head_all : (P : Instr → Type 0) (drop : Bool) (n : ℕ) (o : Op) → ((c : Cell) → P (Instr.ChkRead c n)) → ((c : Cell) → P (Instr.ChkWrite c n)) → ((c : Cell) → P (Instr.ChkLock c n)) → P (Instr.ChkLockLoaded n)
+    → ((r : ℕ) → P (Instr.TestSole r n)) → ((r c : ℕ) → P (Instr.Clear r c)) → AllIn P (head drop n o)
+head_all P drop n (Op.Load i cell spot) rd wr l m s c = check_all P drop (Instr.ChkRead cell n) spot n spot.mode (rd cell) l m
+head_all P drop n (Op.Store i cell spot) rd wr l m s c = check_all P drop (Instr.ChkWrite cell n) spot n spot.mode (wr cell) l m
+head_all P drop n (Op.LoadRef r cell spot) rd wr l m s c = check_all P false (Instr.ChkRead cell n) spot n spot.mode (rd cell) l m
+head_all P drop n (Op.StoreRef r cell spot) rd wr l m s c = check_all P false (Instr.ChkWrite cell n) spot n spot.mode (wr cell) l m
+head_all P drop n (Op.TakeCell r cell spot) rd wr l m s c = check_all P false (Instr.ChkWrite cell n) spot n spot.mode (wr cell) l m
 head_all P drop n (Op.Give r cells spot) rd wr l m s c = (s r, (c r cells, tt))
 head_all P drop n (Op.Free r layout spot) rd wr l m s c = (s r, tt)
 head_all P drop n _ rd wr l m s c = tt
@@ -219,7 +219,7 @@ module _ (flat : Flat) (dropped : ℕ → Bool) (framed : IsFramed flat) where
   in_body : (n j : ℕ) (o : Op) → slice_get flat.lines n ≡ Some o → j < width (dropped n) n o → IsBody p owner (framed.owner n) (pl n + j)
   in_body n j o e lt =
       let w = width_is pl (dropped n) n o in
-      let i = slice_get-get_or (expand pl (dropped n) n o) j Exit (omega arith) in
+      let i = slice_get-get_or (expand pl (dropped n) n o) j Instr.Exit (omega arith) in
       record {
         behind = omega arith;
         inside = get_inside p.statements (pl n + j) _ (statement_there n j o e lt ∙ i);

@@ -1,5 +1,5 @@
 -- What comes before a statement: checks of what it asks for.
-use Rattle.sharc_guard.proofs.{Imports.{◌≡◌, ℕ, ℤ, pos, ◌+◌, ◌-◌, inl, inr, Bool, true, false, List, [], ◌∷◌, Some, None, refl, sym, ap, ◌∙◌, subst, cond, Act, CellAt, CellMode, Taken, Trap, Kind, PlaceMode, Dynamic, LockedGlobal, LockedSibling, LockedThrough, LockedLoaded, Cell, Instr, ChkRead, ChkWrite, Replaced, cell_of, through, held_mutexes, is_null, number_of, stopped, Op, Spot, Flat, At, Turn, asks, halts, ref, next, stops, cell_at, global_cell, cell_mode_of, is_of_null, lock_is_null, accesses, accessed, op_turn, take_kind_of, int, set_int, set_ref, gives_up, Program, Thread, source_at, weight, place, guarded, check_under, head, IsAccess, IsUnder, Tells, OverwritesNone, LockStands}, Places.{IsPlaceOf, spot_of}, Beside.{beside, cell_same, null_same}, Turning.IsOpenFor}
+use Rattle.sharc_guard.proofs.{Imports.{◌≡◌, ℕ, ℤ, pos, ◌+◌, ◌-◌, inl, inr, Bool, true, false, List, [], ◌∷◌, Some, None, refl, sym, ap, ◌∙◌, subst, cond, Act, CellAt, CellMode, Taken, Trap, Kind, PlaceMode, Dynamic, LockedGlobal, LockedSibling, LockedThrough, LockedLoaded, Cell, Instr, Replaced, cell_of, through, held_mutexes, is_null, number_of, stopped, Op, Spot, Flat, At, Turn, asks, halts, ref, next, stops, cell_at, global_cell, cell_mode_of, is_of_null, lock_is_null, accesses, accessed, op_turn, take_kind_of, int, set_int, set_ref, gives_up, Program, Thread, source_at, weight, place, guarded, check_under, head, IsAccess, IsUnder, Tells, OverwritesNone, LockStands}, Places.{IsPlaceOf, spot_of}, Beside.{beside, cell_same, null_same}, Turning.IsOpenFor}
 use Rattle.sharc_tree.specs.declared.event.Object.{Object}
 use Rattle.sharc_guard.specs.Machine as Form
 use Rattle.sharc_guard.specs.Counted.{IsBeside}
@@ -118,15 +118,15 @@ module _ (dropped : ℕ → Bool) (flat : Flat) (m : At) where
 
   pub heads : (d : Bool) (o : Op) → LockStands flat m o → ((spot : Spot) → spot_of o ≡ Some spot → IsPlaceOf spot (source_at p s)) → Guards (IsOpenFor o m) (op_turn flat o m) (head d s o)
   heads d (Op.Load i cell spot) lk k =
-      in_mode cell spot (k spot refl) Act.Read (λ c v. set_int i v) Kind.Read (λ c x. refl) (ChkRead cell s) refl (λ a. tt) (λ a. refl) refl d spot.mode refl lk
+      in_mode cell spot (k spot refl) Act.Read (λ c v. set_int i v) Kind.Read (λ c x. refl) (Instr.ChkRead cell s) refl (λ a. tt) (λ a. refl) refl d spot.mode refl lk
   heads d (Op.Store i cell spot) lk k =
-      in_mode cell spot (k spot refl) (λ c mode. Act.Write c mode (int m i)) (λ c v n. n) Kind.Write (λ c x. refl) (ChkWrite cell s) refl (λ a. tt) (λ a. refl) (inl (_, refl)) d spot.mode refl lk
+      in_mode cell spot (k spot refl) (λ c mode. Act.Write c mode (int m i)) (λ c v n. n) Kind.Write (λ c x. refl) (Instr.ChkWrite cell s) refl (λ a. tt) (λ a. refl) (inl (_, refl)) d spot.mode refl lk
   heads d (Op.LoadRef r cell spot) lk k =
-      in_mode cell spot (k spot refl) Act.Read (λ c v. set_ref r v) Kind.Read (λ c x. refl) (ChkRead cell s) refl (λ a. tt) (λ a. refl) refl false spot.mode refl lk
+      in_mode cell spot (k spot refl) Act.Read (λ c v. set_ref r v) Kind.Read (λ c x. refl) (Instr.ChkRead cell s) refl (λ a. tt) (λ a. refl) refl false spot.mode refl lk
   heads d (Op.StoreRef r cell spot) lk k =
-      in_mode cell spot (k spot refl) (λ c mode. Act.Write c mode (ref m r)) (λ c v n. gives_up (Replaced c) (set_ref r (pos 0) n)) Kind.Write (λ c x. refl) (ChkWrite cell s) refl (λ a. tt) (λ a. refl) (inl (_, refl)) false spot.mode refl lk
+      in_mode cell spot (k spot refl) (λ c mode. Act.Write c mode (ref m r)) (λ c v n. gives_up (Replaced c) (set_ref r (pos 0) n)) Kind.Write (λ c x. refl) (Instr.ChkWrite cell s) refl (λ a. tt) (λ a. refl) (inl (_, refl)) false spot.mode refl lk
   heads d (Op.TakeCell r cell spot) lk k =
-      in_mode cell spot (k spot refl) (λ c mode. Act.Take (Taken.Cell c mode) (take_kind_of spot.at)) (λ c v. set_ref r v) Kind.Write (λ c x. refl) (ChkWrite cell s) refl (λ a. tt) (λ a. refl) (inr (_, refl)) false spot.mode refl lk
+      in_mode cell spot (k spot refl) (λ c mode. Act.Take (Taken.Cell c mode) (take_kind_of spot.at)) (λ c v. set_ref r v) Kind.Write (λ c x. refl) (Instr.ChkWrite cell s) refl (λ a. tt) (λ a. refl) (inr (_, refl)) false spot.mode refl lk
   heads d (Op.Give r cells spot) lk k = (refl, λ a. tt, λ a b e. absurd (cc), λ q low. (refl, (refl, λ a. tt, λ a b e. tt, λ q low. (refl, tt)), ((k spot refl).site, refl)))
   heads d (Op.Free r layout spot) lk k = (refl, λ a. tt, λ a b e. absurd (cc), λ q low. (refl, tt, ((k spot refl).site, refl)))
   heads d _ lk k = tt

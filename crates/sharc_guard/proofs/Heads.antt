@@ -1,5 +1,5 @@
 -- What comes before an operation's own statement: it passes, or stops where flat code stops.
-use Rattle.sharc_guard.proofs.{Imports.{◌≡◌, ℕ, ℤ, pos, ◌+◌, Bool, true, false, List, [], ◌∷◌, refl, sym, ap, ◌∙◌, subst, if◌then◌else◌, Act, CellAt, CellMode, Taken, Trap, PlaceMode, Dynamic, LockedGlobal, LockedSibling, LockedThrough, LockedLoaded, Cell, Global, Object, Instr, ChkRead, ChkWrite, ChkLock, ChkLockLoaded, TestSole, Clear, Replaced, Emptied, number_of, stopped, Op, Spot, asks, halts, op_turn, Thread, Goes, Checks, Halts, Stopped, step, weight, source_of, check_under, head, image}, Follows.{g, at, Unlocked}}
+use Rattle.sharc_guard.proofs.{Imports.{◌≡◌, ℕ, ℤ, pos, ◌+◌, Bool, true, false, List, [], ◌∷◌, refl, sym, ap, ◌∙◌, subst, if◌then◌else◌, Act, CellAt, CellMode, Taken, Trap, PlaceMode, Dynamic, LockedGlobal, LockedSibling, LockedThrough, LockedLoaded, Cell, Global, Object, Instr, Replaced, Emptied, number_of, stopped, Op, Spot, asks, halts, op_turn, Thread, Goes, Checks, Halts, Stopped, step, weight, source_of, check_under, head, image}, Follows.{g, at, Unlocked}}
 use Rattle.sharc_flat.specs.Machine as Flat
 use Rattle.sharc_guard.specs.Machine as Form
 use Rattle.sharc_guard.specs.Machine.{Turn}
@@ -66,10 +66,10 @@ module _ (dropped : ℕ → Bool) (flat : Flat.Flat) (m : Flat.At) where
   checked : (o : Op) (spot : Spot) (drop : Bool) (dynamic : Instr) → IsAccess o spot → ((q : ℕ) (L : List ℕ) → IsPass m.pc (step (g dropped flat) dynamic (image (at dropped flat) m q L)) (image (at dropped flat) m (q + 1) L)) → weight dynamic ≡ 1
       → (mode : PlaceMode) → spot.mode ≡ mode → AreHeads o (check_under drop dynamic spot m.pc mode)
   checked o spot false dynamic k pass light Dynamic e = looks o spot k (ap (Flat.lock_is_null m spot) e) dynamic pass light
-  checked o spot drop dynamic k pass light (LockedGlobal h place) e = locks o spot k false (ap (Flat.lock_is_null m spot) e) (ChkLock (Global h place) m.pc) (λ q L. (_, refl)) refl
-  checked o spot drop dynamic k pass light (LockedSibling field mutex) e = locks o spot k (Flat.is_of_null m spot.lock) (ap (Flat.lock_is_null m spot) e) (ChkLock spot.lock m.pc) (λ q L. (_, refl)) refl
-  checked o spot drop dynamic k pass light (LockedThrough r place) e = locks o spot k _ (ap (Flat.lock_is_null m spot) e) (ChkLock (Object r place) m.pc) (λ q L. (_, refl)) refl
-  checked o spot drop dynamic k pass light LockedLoaded e = locks o spot k _ (ap (Flat.lock_is_null m spot) e) (ChkLockLoaded m.pc) (λ q L. (_, refl)) refl
+  checked o spot drop dynamic k pass light (LockedGlobal h place) e = locks o spot k false (ap (Flat.lock_is_null m spot) e) (Instr.ChkLock (Global h place) m.pc) (λ q L. (_, refl)) refl
+  checked o spot drop dynamic k pass light (LockedSibling field mutex) e = locks o spot k (Flat.is_of_null m spot.lock) (ap (Flat.lock_is_null m spot) e) (Instr.ChkLock spot.lock m.pc) (λ q L. (_, refl)) refl
+  checked o spot drop dynamic k pass light (LockedThrough r place) e = locks o spot k _ (ap (Flat.lock_is_null m spot) e) (Instr.ChkLock (Object r place) m.pc) (λ q L. (_, refl)) refl
+  checked o spot drop dynamic k pass light LockedLoaded e = locks o spot k _ (ap (Flat.lock_is_null m spot) e) (Instr.ChkLockLoaded m.pc) (λ q L. (_, refl)) refl
   checked o spot _ dynamic k pass light _ e = k.unlocked (ap (Flat.lock_is_null m spot) e)
 
   -- an access, as flat code has it
@@ -97,14 +97,14 @@ module _ (dropped : ℕ → Bool) (flat : Flat.Flat) (m : Flat.At) where
   }
 
   pub heads : (drop : Bool) (o : Op) → AreHeads o (head drop m.pc o)
-  heads drop (Op.Load i cell spot) = checked (Op.Load i cell spot) spot drop (ChkRead cell m.pc) (access (Op.Load i cell spot) cell spot Act.Read (λ c v. Flat.set_int i v) refl refl (λ e. e)) (λ q L. (refl, refl)) refl spot.mode refl
-  heads drop (Op.Store i cell spot) = checked (Op.Store i cell spot) spot drop (ChkWrite cell m.pc) (access (Op.Store i cell spot) cell spot (λ c mode. Act.Write c mode (Flat.int m i)) (λ c v n. n) refl refl (λ e. e)) (λ q L. (refl, refl)) refl spot.mode refl
-  heads drop (Op.LoadRef r cell spot) = checked (Op.LoadRef r cell spot) spot false (ChkRead cell m.pc) (access (Op.LoadRef r cell spot) cell spot Act.Read (λ c v. Flat.set_ref r v) refl refl (λ e. e)) (λ q L. (refl, refl)) refl spot.mode refl
-  heads drop (Op.StoreRef r cell spot) = checked (Op.StoreRef r cell spot) spot false (ChkWrite cell m.pc) (access (Op.StoreRef r cell spot) cell spot (λ c mode. Act.Write c mode (Flat.ref m r)) (λ c v n. Flat.gives_up (Replaced c) (Flat.set_ref r (pos 0) n)) refl refl (λ e. e)) (λ q L. (refl, refl)) refl spot.mode refl
-  heads drop (Op.TakeCell r cell spot) = checked (Op.TakeCell r cell spot) spot false (ChkWrite cell m.pc) (access (Op.TakeCell r cell spot) cell spot (λ c mode. Act.Take (Taken.Cell c mode) (Flat.take_kind_of spot.at)) (λ c v. Flat.set_ref r v) refl refl (λ e. e)) (λ q L. (refl, refl)) refl spot.mode refl
+  heads drop (Op.Load i cell spot) = checked (Op.Load i cell spot) spot drop (Instr.ChkRead cell m.pc) (access (Op.Load i cell spot) cell spot Act.Read (λ c v. Flat.set_int i v) refl refl (λ e. e)) (λ q L. (refl, refl)) refl spot.mode refl
+  heads drop (Op.Store i cell spot) = checked (Op.Store i cell spot) spot drop (Instr.ChkWrite cell m.pc) (access (Op.Store i cell spot) cell spot (λ c mode. Act.Write c mode (Flat.int m i)) (λ c v n. n) refl refl (λ e. e)) (λ q L. (refl, refl)) refl spot.mode refl
+  heads drop (Op.LoadRef r cell spot) = checked (Op.LoadRef r cell spot) spot false (Instr.ChkRead cell m.pc) (access (Op.LoadRef r cell spot) cell spot Act.Read (λ c v. Flat.set_ref r v) refl refl (λ e. e)) (λ q L. (refl, refl)) refl spot.mode refl
+  heads drop (Op.StoreRef r cell spot) = checked (Op.StoreRef r cell spot) spot false (Instr.ChkWrite cell m.pc) (access (Op.StoreRef r cell spot) cell spot (λ c mode. Act.Write c mode (Flat.ref m r)) (λ c v n. Flat.gives_up (Replaced c) (Flat.set_ref r (pos 0) n)) refl refl (λ e. e)) (λ q L. (refl, refl)) refl spot.mode refl
+  heads drop (Op.TakeCell r cell spot) = checked (Op.TakeCell r cell spot) spot false (Instr.ChkWrite cell m.pc) (access (Op.TakeCell r cell spot) cell spot (λ c mode. Act.Take (Taken.Cell c mode) (Flat.take_kind_of spot.at)) (λ c v. Flat.set_ref r v) refl refl (λ e. e)) (λ q L. (refl, refl)) refl spot.mode refl
   heads drop (Op.Give r cells spot) =
       let want : Asking (Op.Give r cells spot) = record { from = m; act = _; held = pos 0; go = λ v n. Flat.next n; asks_it = refl } in
-      before (Op.Give r cells spot) (TestSole r m.pc) _ want (before (Op.Give r cells spot) (Clear r cells) _ want tt (λ q L. refl) refl) (λ q L. (refl, refl)) refl
+      before (Op.Give r cells spot) (Instr.TestSole r m.pc) _ want (before (Op.Give r cells spot) (Instr.Clear r cells) _ want tt (λ q L. refl) refl) (λ q L. (refl, refl)) refl
   heads drop (Op.Free r layout spot) =
-      before (Op.Free r layout spot) (TestSole r m.pc) _ (record { from = Flat.gives_up (Emptied (number_of (Flat.ref m r))) m; act = _; held = pos 0; go = λ v n. Flat.next (Flat.set_ref r (pos 0) n); asks_it = refl }) tt (λ q L. (refl, refl)) refl
+      before (Op.Free r layout spot) (Instr.TestSole r m.pc) _ (record { from = Flat.gives_up (Emptied (number_of (Flat.ref m r))) m; act = _; held = pos 0; go = λ v n. Flat.next (Flat.set_ref r (pos 0) n); asks_it = refl }) tt (λ q L. (refl, refl)) refl
   heads drop _ = tt

@@ -1,12 +1,12 @@
 -- The lists that guarding fills.
-use Rattle.sharc_guard.proofs.{Imports.{◌≡◌, ◌≤◌, ◌<◌, ℕ, zero, suc, ◌+◌, ◌-◌, ◌*◌, Bool, true, false, List, [], ◌∷◌, ◌++◌, length, drop, refl, sym, ap, ◌∙◌, arith, Some, slice_get, get_or, nat_lt, if◌then◌else◌, length-append, get_or_append_left, get_or-append_seam, ltb-true, ltb-false, Instr, Start, Exit, Op, width, offset, place, expanded, head, own, body, tail, among, places, marked}, Placing.offset_next, Holding.funext}
+use Rattle.sharc_guard.proofs.{Imports.{◌≡◌, ◌≤◌, ◌<◌, ℕ, zero, suc, ◌+◌, ◌-◌, ◌*◌, Bool, true, false, List, [], ◌∷◌, ◌++◌, length, drop, refl, sym, ap, ◌∙◌, arith, Some, slice_get, get_or, nat_lt, if◌then◌else◌, length-append, get_or_append_left, get_or-append_seam, ltb-true, ltb-false, Instr, Op, width, offset, place, expanded, head, own, body, tail, among, places, marked}, Placing.offset_next, Holding.funext}
 
 abbrev pub Summed : List Bool → List Op → ℕ → ℕ → List ℕ → Type 0
 Summed marks lines n at starts = (starts ≡ places (marked marks) lines n) × (at ≡ place (marked marks) lines n) × (at ≤ 2 + 4 * n)
 
 -- what is put so far, and what is still to put, is all
 abbrev pub Put : List ℕ → List Bool → List Op → ℕ → List Instr → Type 0
-Put starts marks lines n statements = statements ++ expanded (among starts) (marked marks) n (drop n lines) ≡ Start 0 ∷ Exit ∷ expanded (among starts) (marked marks) 0 lines
+Put starts marks lines n statements = statements ++ expanded (among starts) (marked marks) n (drop n lines) ≡ Instr.Start 0 ∷ Instr.Exit ∷ expanded (among starts) (marked marks) 0 lines
 
 pub place_more : (d : ℕ → Bool) (lines : List Op) (n : ℕ) (o : Op) → slice_get lines n ≡ Some o → place d lines n + width (d n) n o ≡ place d lines (n + 1)
 place_more d lines n o e =

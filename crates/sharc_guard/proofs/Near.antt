@@ -1,12 +1,12 @@
 -- Where guarded code is after one turn of flat code.
-use Rattle.sharc_guard.proofs.{Imports.{◌≡◌, ℕ, ℤ, zero, suc, ◌+◌, ◌≤◌, ◌⊎◌, inl, Bool, List, [], ◌∷◌, length, refl, ap, ◌∙◌, arith, CellAt, Instr, RaiseLoaded, Lower, MoveReference, Replaced, held_mutexes, event_of, answer_of, Flat, At, Turn, goes, asks, halts, with_event, Program, Thread, Phase, Running, Leaving, Left, place, guarded, IsLevel, IsEnd, IsSettling, AreLowered, OverwritesNone}, Beside.beside, Ready.Ready}
+use Rattle.sharc_guard.proofs.{Imports.{◌≡◌, ℕ, ℤ, zero, suc, ◌+◌, ◌≤◌, ◌⊎◌, inl, Bool, List, [], ◌∷◌, length, refl, ap, ◌∙◌, arith, CellAt, Instr, Replaced, held_mutexes, event_of, answer_of, Flat, At, Turn, goes, asks, halts, with_event, Program, Thread, Phase, Running, Leaving, Left, place, guarded, IsLevel, IsEnd, IsSettling, AreLowered, OverwritesNone}, Beside.beside, Ready.Ready}
 use Rattle.sharc_guard.specs.Machine as Form
 
 -- what the statement does that settles the counts
 abbrev pub quiet : Instr → Thread → Thread
-quiet (RaiseLoaded r) a = Form.next (Form.accessed (Form.set_ref a r a.pending))
-quiet (Lower r) a = Form.next (Form.lowered a r)
-quiet (MoveReference r from) a = Form.next (Form.move_ref a r from)
+quiet (Instr.RaiseLoaded r) a = Form.next (Form.accessed (Form.set_ref a r a.pending))
+quiet (Instr.Lower r) a = Form.next (Form.lowered a r)
+quiet (Instr.MoveReference r from) a = Form.next (Form.move_ref a r from)
 quiet _ a = a
 
 abbrev pub settled : List Instr → Thread → Thread
@@ -15,9 +15,9 @@ settled (i ∷ is) a = quiet i a
 
 abbrev pub IsQuiet : List Instr → Type 0
 IsQuiet [] = Unit {0}
-IsQuiet (RaiseLoaded r ∷ is) = is ≡ []
-IsQuiet (Lower r ∷ is) = is ≡ []
-IsQuiet (MoveReference r from ∷ is) = is ≡ []
+IsQuiet (Instr.RaiseLoaded r ∷ is) = is ≡ []
+IsQuiet (Instr.Lower r ∷ is) = is ≡ []
+IsQuiet (Instr.MoveReference r from ∷ is) = is ≡ []
 IsQuiet (_ ∷ is) = ⊥
 
 abbrev pub SettlingBy : List Instr → Thread → At → ℕ → Type 0
@@ -25,7 +25,7 @@ SettlingBy [] a m k = ⊥
 SettlingBy (i ∷ is) a m k = IsSettling i a m k
 
 abbrev pub IsLowering : List Instr → Type 0
-IsLowering (Lower r ∷ is) = Unit {0}
+IsLowering (Instr.Lower r ∷ is) = Unit {0}
 IsLowering _ = ⊥
 
 abbrev pub ClearBy : List Instr → Thread → Type 0

@@ -1,5 +1,5 @@
 -- Where guarded code is, beside flat code.
-use Rattle.sharc_guard.proofs.{Imports.{◌≡◌, ℕ, ℤ, pos, zero, suc, ◌+◌, ◌*◌, ◌<◌, ◌≤◌, ◌⊎◌, inl, inr, Bool, true, false, List, [], ◌∷◌, ◌++◌, length, Some, refl, sym, ap, ◌∙◌, subst, arith, ⊎_elim, append-nil, slice_get-get_or, slice_get, PlaceMode, Dynamic, Instr, ChkRead, ChkWrite, RaiseLoaded, Lower, MoveReference, Char, held_mutexes, Op, Spot, Flat, At, goes, next, line_turn, op_turn, turn, may_go, at_after, IsFlatPath, asked_by, asked, Program, Thread, weight, place, guarded, check_under, head, own, body, tail, Enters, Level, IsLevel, is_enter, moves, AreLowered, LockStands}, Placing.HasAt, Places.{pieces, stands, place_next, place_of}, Walking.IsIdle, Turns.behind, Beside.beside, Ready.{Ready, enters}, Near.{IsQuiet, SettlingBy, Near, Ending}, Turning.IsOpenFor, Gates.{Guards, heads}}
+use Rattle.sharc_guard.proofs.{Imports.{◌≡◌, ℕ, ℤ, pos, zero, suc, ◌+◌, ◌*◌, ◌<◌, ◌≤◌, ◌⊎◌, inl, inr, Bool, true, false, List, [], ◌∷◌, ◌++◌, length, Some, refl, sym, ap, ◌∙◌, subst, arith, ⊎_elim, append-nil, slice_get-get_or, slice_get, PlaceMode, Dynamic, Instr, Char, held_mutexes, Op, Spot, Flat, At, goes, next, line_turn, op_turn, turn, may_go, at_after, IsFlatPath, asked_by, asked, Program, Thread, weight, place, guarded, check_under, head, own, body, tail, Enters, Level, IsLevel, is_enter, moves, AreLowered, LockStands}, Placing.HasAt, Places.{pieces, stands, place_next, place_of}, Walking.IsIdle, Turns.behind, Beside.beside, Ready.{Ready, enters}, Near.{IsQuiet, SettlingBy, Near, Ending}, Turning.IsOpenFor, Gates.{Guards, heads}}
 
 -- it does not only enter an expression
 abbrev pub IsMoving : Op → Type 0
@@ -20,18 +20,18 @@ few_checks chk spot d _ s = omega arith
 pub few_turns : (pl : ℕ → ℕ) (s : ℕ) (d : Bool) (o : Op) → length (head d s o) + (weight_all (own (body pl s o)) + length (tail o)) ≤ 4
 few_turns pl s d (Op.Compute Char o i a b spot) = omega arith
 few_turns pl s d (Op.Negate Char i a spot) = omega arith
-few_turns pl s d (Op.Load i cell spot) = let f = few_checks (ChkRead cell s) spot d spot.mode s in omega arith
-few_turns pl s d (Op.Store i cell spot) = let f = few_checks (ChkWrite cell s) spot d spot.mode s in omega arith
-few_turns pl s d (Op.LoadRef r cell spot) = let f = few_checks (ChkRead cell s) spot false spot.mode s in omega arith
-few_turns pl s d (Op.StoreRef r cell spot) = let f = few_checks (ChkWrite cell s) spot false spot.mode s in omega arith
-few_turns pl s d (Op.TakeCell r cell spot) = let f = few_checks (ChkWrite cell s) spot false spot.mode s in omega arith
+few_turns pl s d (Op.Load i cell spot) = let f = few_checks (Instr.ChkRead cell s) spot d spot.mode s in omega arith
+few_turns pl s d (Op.Store i cell spot) = let f = few_checks (Instr.ChkWrite cell s) spot d spot.mode s in omega arith
+few_turns pl s d (Op.LoadRef r cell spot) = let f = few_checks (Instr.ChkRead cell s) spot false spot.mode s in omega arith
+few_turns pl s d (Op.StoreRef r cell spot) = let f = few_checks (Instr.ChkWrite cell s) spot false spot.mode s in omega arith
+few_turns pl s d (Op.TakeCell r cell spot) = let f = few_checks (Instr.ChkWrite cell s) spot false spot.mode s in omega arith
 few_turns pl s d _ = omega arith
 
 settling_next : (m : At) (a : Thread) (k : ℕ) (rest : List Instr) → IsQuiet rest → SettlingBy rest a m k → SettlingBy rest a (next m) k
 settling_next m a k [] q h = h
-settling_next m a k (RaiseLoaded r ∷ is) q h = h
-settling_next m a k (Lower r ∷ is) q h = h
-settling_next m a k (MoveReference r from ∷ is) q h = h
+settling_next m a k (Instr.RaiseLoaded r ∷ is) q h = h
+settling_next m a k (Instr.Lower r ∷ is) q h = h
+settling_next m a k (Instr.MoveReference r from ∷ is) q h = h
 settling_next m a k (_ ∷ is) q h = absurd q
 
 module _ (dropped : ℕ → Bool) (flat : Flat) (level : IsLevel flat) where

@@ -1,5 +1,5 @@
 -- Where the statements of lines lie.
-use Rattle.sharc_guard.proofs.Imports.{get_or-map, get_or_from_slice_get, ◌≡◌, ℕ, zero, suc, ◌+◌, ◌<◌, Bool, List, [], ◌∷◌, ◌++◌, length, map, refl, sym, ap, ◌∙◌, subst, arith, Some, slice_get, get_or as slice_index_or, length-append, Function, no_function, function_at, function_of, entered_at, Instr, Start, Exit, SourcePlace, Op, Flat, Program, statement_at, source_at, expand, width, offset, place, expanded, guarded, source_of, head, own, body, tail}
+use Rattle.sharc_guard.proofs.Imports.{get_or-map, get_or_from_slice_get, ◌≡◌, ℕ, zero, suc, ◌+◌, ◌<◌, Bool, List, [], ◌∷◌, ◌++◌, length, map, refl, sym, ap, ◌∙◌, subst, arith, Some, slice_get, get_or as slice_index_or, length-append, Function, no_function, function_at, function_of, entered_at, Instr, SourcePlace, Op, Flat, Program, statement_at, source_at, expand, width, offset, place, expanded, guarded, source_of, head, own, body, tail}
 
 -- the statements lie in the list from a place on
 abbrev pub HasAt : List Instr → ℕ → List Instr → Type 0
@@ -82,7 +82,7 @@ module _ (dropped : ℕ → Bool) (flat : Flat) where
   p = guarded dropped flat
 
   pub stands : (n : ℕ) (o : Op) → slice_get flat.lines n ≡ Some o → HasAt p.statements (pl n) (expand pl (dropped n) n o)
-  stands n o e = behind (Start 0 ∷ Exit ∷ []) (expanded pl dropped 0 flat.lines) (offset dropped 0 flat.lines n) (expand pl (dropped n) n o)
+  stands n o e = behind (Instr.Start 0 ∷ Instr.Exit ∷ []) (expanded pl dropped 0 flat.lines) (offset dropped 0 flat.lines n) (expand pl (dropped n) n o)
       (subst (λ z. HasAt (expanded pl dropped 0 flat.lines) (offset dropped 0 flat.lines n) (expand pl (dropped z) z o)) (omega arith) (stands_in pl dropped 0 flat.lines n o e))
 
   pub place_next : (n : ℕ) (o : Op) → slice_get flat.lines n ≡ Some o → pl n + length (expand pl (dropped n) n o) ≡ pl (n + 1)
@@ -94,7 +94,7 @@ module _ (dropped : ℕ → Bool) (flat : Flat) where
       omega arith
 
   pub statement_is : (pc : ℕ) (i : Instr) → slice_get p.statements pc ≡ Some i → statement_at p pc ≡ i
-  statement_is pc i e = get_or_from_slice_get p.statements pc i Exit e
+  statement_is pc i e = get_or_from_slice_get p.statements pc i Instr.Exit e
 
   pub source_is : (n : ℕ) (o : Op) → slice_get flat.lines n ≡ Some o → source_at p n ≡ source_of o
   source_is n o e = source_there flat.lines n o _ e

@@ -1,11 +1,11 @@
 -- One more turn of guarded code.
-use Rattle.sharc_guard.proofs.{Imports.{get_or_from_slice_get, ◌≡◌, ℕ, ℤ, ◌+◌, ◌*◌, ◌≤◌, ◌⊎◌, inl, inr, Bool, true, List, [], ◌∷◌, ◌++◌, length, Some, refl, sym, ap, ◌∙◌, subst, arith, ⊎_elim, slice_get, get_or as slice_index_or, Instr, RaiseLoaded, Lower, MoveReference, Exit, Char, Int, Long, Op, Flat, At, Turn, goes, asks, halts, turn, op_turn, may_go, at_after, IsFlatPath, asked_by, asked, Program, Thread, statement_at, thread_after, weight, weight_in, place, guarded, head, own, body, tail, Tells, LocksFrom, IsLevel, guarded_asked_by, guarded_asked, is_enter, moves}, Placing.HasAt, Gates.GivesNow, Turns.behind, Near.{quiet, IsQuiet, Near, Ending, Follow}, Phases.{IsMoving, Stage, ahead, behind_it, leaves, Bound, opens, enters_all}}
+use Rattle.sharc_guard.proofs.{Imports.{get_or_from_slice_get, ◌≡◌, ℕ, ℤ, ◌+◌, ◌*◌, ◌≤◌, ◌⊎◌, inl, inr, Bool, true, List, [], ◌∷◌, ◌++◌, length, Some, refl, sym, ap, ◌∙◌, subst, arith, ⊎_elim, slice_get, get_or as slice_index_or, Instr, Char, Int, Long, Op, Flat, At, Turn, goes, asks, halts, turn, op_turn, may_go, at_after, IsFlatPath, asked_by, asked, Program, Thread, statement_at, thread_after, weight, weight_in, place, guarded, head, own, body, tail, Tells, LocksFrom, IsLevel, guarded_asked_by, guarded_asked, is_enter, moves}, Placing.HasAt, Gates.GivesNow, Turns.behind, Near.{quiet, IsQuiet, Near, Ending, Follow}, Phases.{IsMoving, Stage, ahead, behind_it, leaves, Bound, opens, enters_all}}
 use Rattle.sharc_code.specs.Machine as CodeMachine
 use Rattle.sharc_guard.specs.Machine as Form
 use Rattle.sharc_guard.specs.Path as Path
 
-pub statement_is : (xs : List Instr) (n : ℕ) (i : Instr) → slice_get xs n ≡ Some i → slice_index_or xs n Exit ≡ i
-statement_is xs n i e = get_or_from_slice_get xs n i Exit e
+pub statement_is : (xs : List Instr) (n : ℕ) (i : Instr) → slice_get xs n ≡ Some i → slice_index_or xs n Instr.Exit ≡ i
+statement_is xs n i e = get_or_from_slice_get xs n i Instr.Exit e
 
 pub one_body : (pl : ℕ → ℕ) (s : ℕ) (o : Op) → IsMoving o → (i : Instr) × (own (body pl s o) ≡ i ∷ [])
 one_body pl s Op.Enter h = absurd h
@@ -48,9 +48,9 @@ module _ (dropped : ℕ → Bool) (flat : Flat) (level : IsLevel flat) where
   straight s _ = λ a x. inl refl
 
   pub quiet_turn : (i : Instr) (a : Thread) → IsQuiet (i ∷ []) → (Form.step p i a ≡ Form.Goes (quiet i a)) × (weight i ≡ 1)
-  quiet_turn (RaiseLoaded r) a h = (refl, refl)
-  quiet_turn (Lower r) a h = (refl, refl)
-  quiet_turn (MoveReference r from) a h = (refl, refl)
+  quiet_turn (Instr.RaiseLoaded r) a h = (refl, refl)
+  quiet_turn (Instr.Lower r) a h = (refl, refl)
+  quiet_turn (Instr.MoveReference r from) a h = (refl, refl)
   quiet_turn _ a h = absurd h
 
   module _ (from : At) (begun : Thread) (locks : LocksFrom flat from) where
@@ -106,9 +106,9 @@ module _ (dropped : ℕ → Bool) (flat : Flat) (level : IsLevel flat) where
         }
       where
         only : (i : Instr) (is : List Instr) → IsQuiet (i ∷ is) → is ≡ []
-        only (RaiseLoaded r) is h = h
-        only (Lower r) is h = h
-        only (MoveReference r from) is h = h
+        only (Instr.RaiseLoaded r) is h = h
+        only (Instr.Lower r) is h = h
+        only (Instr.MoveReference r from) is h = h
         only _ is h = absurd h
 
     -- a statement's own turn

@@ -1,9 +1,9 @@
 -- The functions that guarded code spawns are those that flat code spawns.
-use Rattle.sharc_guard.proofs.{Imports.{◌≡◌, ℕ, suc, ◌+◌, ◌<◌, ◌^◌, Bool, List, [], ◌∷◌, ◌++◌, length, refl, sym, ap, ◌∙◌, subst, arith, Some, slice_get, length-map, slice_index, GlobalCells, Char, Instr, Spawn, GlobalsFit, FlatCode, Op, flat_of, Guarded, TablesFit, head, own, body, tail, expand, expanded, guarded, entered_at, place, IsMade, FlatTablesFit}, Framing.{AllIn, all_append, all_at, head_all}}
+use Rattle.sharc_guard.proofs.{Imports.{◌≡◌, ℕ, suc, ◌+◌, ◌<◌, ◌^◌, Bool, List, [], ◌∷◌, ◌++◌, length, refl, sym, ap, ◌∙◌, subst, arith, Some, slice_get, length-map, slice_index, GlobalCells, Char, Instr, GlobalsFit, FlatCode, Op, flat_of, Guarded, TablesFit, head, own, body, tail, expand, expanded, guarded, entered_at, place, IsMade, FlatTablesFit}, Framing.{AllIn, all_append, all_at, head_all}}
 
 -- what a statement spawns is one of this many functions
 abbrev Spawns : ℕ → Instr → Type 0
-Spawns count (Spawn to function from site) = function < count
+Spawns count (Instr.Spawn to function from site) = function < count
 Spawns count _ = Unit {0}
 
 abbrev OpSpawns : ℕ → Op → Type 0
@@ -53,5 +53,5 @@ tables dropped f g made h =
       words = λ j. subst (λ (ws : List ℕ). slice_index ws j < 2 ^ 64) (sym (ap (λ v. v.items) made.initial)) (h.words j);
       spawned = λ pc to function site from e.
           let all : AllIn (Spawns (length f.functions.items)) (guarded dropped (flat_of f)).statements = (tt, (tt, lines_spawn pl dropped 0 (length f.functions.items) f.lines.items (each_op f h))) in
-          subst (λ n. function < n) (sym count) (all_at (Spawns (length f.functions.items)) (guarded dropped (flat_of f)).statements pc (Spawn to function from site) all (sym (ap (λ is. slice_get is pc) made.statements) ∙ e));
+          subst (λ n. function < n) (sym count) (all_at (Spawns (length f.functions.items)) (guarded dropped (flat_of f)).statements pc (Instr.Spawn to function from site) all (sym (ap (λ is. slice_get is pc) made.statements) ∙ e));
     }

@@ -1,5 +1,5 @@
 -- The paths of guarded code are those of flat code.
-use Rattle.sharc_guard.proofs.{Imports.{Taken, is_positive, elements_of, is_zero, Replaced, held_mutexes, holds_mutex, holds, Private, Readonly, Racy, Dynamic, PlaceMode, Cell, Function, Parameter, Instr, RaiseLoaded, Lower, MoveReference, ChkRead, ChkWrite, Char, Int, CellMode, Act, Site, CellAt, Trap, ◌≡◌, ◌≢◌, ℕ, ℤ, pos, suc, ◌+◌, ◌*◌, ◌<◌, ◌≤◌, ◌⊎◌, inl, inr, Bool, List, [], ◌∷◌, length, refl, sym, ap, ◌∙◌, subst, arith, ⊎_elim, cond, Result, Ok, Err, false, true, not, negsuc, nat_lt, cases_eq, slice_get_past, Op, Spot, Flat, At, Turn, goes, asks, halts, function_of, end_turn, line_turn, op_turn, turn, first_at, begun, start, Caller, indexed, asserts, with_result, takes_local, goes_on, stops, returned, called, set_int, int, ref, cell_at, cell_mode_of, lock_is_null, accesses, accessed, next, set_ref, gives_up, take_kind_of, at_after, Program, Thread, statement_at, with_parameter, fresh, started, thread_after, IsPath, weight_in, place, guarded, entered_at, own, body, tail, head, check_under, Takes, Level, IsLevel, Tells, IsSettling, AreLowered, OverwritesNone, Quietly, OnWay, IsReplaced, MatchesFlat, HasCome, LocksFrom, GuardedCounts, NeedsCheck, IsPassed, WasChecked, IsOf, false_true}, Gates.{Guards as GuardsOf, Passes, GivesNow}, Turning.IsOpenFor, Beside.beside, Ready.{Is, null_is, put_other, Ready}, Near.{IsLowering, Near, Ending, leaving, Follow, lands}, Phases.{Ahead, Stage, ahead, behind_it, leaves, Bound}, Steps.{statement_is, quiet_turn, Coming, landed, Was, PassedBy, LastPassed}, Ways.ways, Comes.{at_body, at_check, comes}, Placing.{entered_is, part_is}}
+use Rattle.sharc_guard.proofs.{Imports.{Taken, is_positive, elements_of, is_zero, Replaced, held_mutexes, holds_mutex, holds, Private, Readonly, Racy, Dynamic, PlaceMode, Cell, Function, Parameter, Instr, Char, Int, CellMode, Act, Site, CellAt, Trap, ◌≡◌, ◌≢◌, ℕ, ℤ, pos, suc, ◌+◌, ◌*◌, ◌<◌, ◌≤◌, ◌⊎◌, inl, inr, Bool, List, [], ◌∷◌, length, refl, sym, ap, ◌∙◌, subst, arith, ⊎_elim, cond, Result, Ok, Err, false, true, not, negsuc, nat_lt, cases_eq, slice_get_past, Op, Spot, Flat, At, Turn, goes, asks, halts, function_of, end_turn, line_turn, op_turn, turn, first_at, begun, start, Caller, indexed, asserts, with_result, takes_local, goes_on, stops, returned, called, set_int, int, ref, cell_at, cell_mode_of, lock_is_null, accesses, accessed, next, set_ref, gives_up, take_kind_of, at_after, Program, Thread, statement_at, with_parameter, fresh, started, thread_after, IsPath, weight_in, place, guarded, entered_at, own, body, tail, head, check_under, Takes, Level, IsLevel, Tells, IsSettling, AreLowered, OverwritesNone, Quietly, OnWay, IsReplaced, MatchesFlat, HasCome, LocksFrom, GuardedCounts, NeedsCheck, IsPassed, WasChecked, IsOf, false_true}, Gates.{Guards as GuardsOf, Passes, GivesNow}, Turning.IsOpenFor, Beside.beside, Ready.{Is, null_is, put_other, Ready}, Near.{IsLowering, Near, Ending, leaving, Follow, lands}, Phases.{Ahead, Stage, ahead, behind_it, leaves, Bound}, Steps.{statement_is, quiet_turn, Coming, landed, Was, PassedBy, LastPassed}, Ways.ways, Comes.{at_body, at_check, comes}, Placing.{entered_is, part_is}}
 use Rattle.sharc_code.specs.Machine as CodeMachine
 use Rattle.sharc_guard.specs.Machine as Form
 use Rattle.sharc_guard.specs.Level.{IsEntry}
@@ -59,9 +59,9 @@ module _ (dropped : ℕ → Bool) (flat : Flat) (level : IsLevel flat) where
 
   settling_flight : (m : At) (a : Thread) → Ready flat level m → (k : ℕ) → a.refs k ≢ pos 0 → (i : Instr) → statement_at p a.pc ≡ i → IsSettling i a m k → (IsLowering (i ∷ []) → (c : CellAt) × (m.given ≡ Replaced c ∷ []) × (a.lowered ≡ []))
       → IsReplaced p m a k ⊎ ((n : ℕ) (m2 : At) → Quietly flat n m m2 → OnWay (a.refs k) m m2)
-  settling_flight m a rd k some (RaiseLoaded r) st z l = absurd (some z.1)
-  settling_flight m a rd k some (Lower r) st z l = let c = l tt in inl (record { register = r; next = st; at = z.0; cell = c.0; given = c.1; none = c.2 })
-  settling_flight m a rd k some (MoveReference r from) st z l = ⊎_elim
+  settling_flight m a rd k some (Instr.RaiseLoaded r) st z l = absurd (some z.1)
+  settling_flight m a rd k some (Instr.Lower r) st z l = let c = l tt in inl (record { register = r; next = st; at = z.0; cell = c.0; given = c.1; none = c.2 })
+  settling_flight m a rd k some (Instr.MoveReference r from) st z l = ⊎_elim
       (λ (h : (k ≡ a.refs_from + r) × (a.refs k ≡ pos 0) × (a.refs (a.refs_from + from) ≡ m.refs k)). absurd (some h.1))
       (λ (h : (k ≡ a.refs_from + from) × (m.refs k ≡ pos 0) × (a.refs k ≡ m.refs (a.refs_from + r))). inr (λ n m2 q. ways flat level n m m2 (inl rd) (a.refs_from + r) (a.refs k) (sym h.2) some q))
       z
@@ -177,11 +177,11 @@ module _ (dropped : ℕ → Bool) (flat : Flat) (level : IsLevel flat) where
   no_head m d s (Op.Bounds i r cells field spot) e h = absurd (needs_index m i cells field (elements_of (ref m r)) spot (int m i) h)
   no_head m d s (Op.GlobalBounds i elements cells field spot) e h = absurd (needs_index m i cells field elements spot (int m i) h)
   no_head m d s (Op.TakeLocal r x spot) e h = absurd (needs_take m r x spot (is_zero (ref m x)) h)
-  no_head m d s (Op.Load i cell spot) e h = unchecked m (ChkRead cell s) d cell spot Act.Read (λ c v. set_int i v) s spot.mode refl (λ c z. z) (λ c z. z) (λ c z. z) e h
-  no_head m d s (Op.Store i cell spot) e h = unchecked m (ChkWrite cell s) d cell spot (λ c mode. Act.Write c mode (int m i)) (λ c v n. n) s spot.mode refl (λ c z. z) (λ c z. z) (λ c z. z) e h
-  no_head m d s (Op.LoadRef r cell spot) e h = false_true (unchecked m (ChkRead cell s) false cell spot Act.Read (λ c v. set_ref r v) s spot.mode refl (λ c z. z) (λ c z. z) (λ c z. z) e h)
-  no_head m d s (Op.StoreRef r cell spot) e h = false_true (unchecked m (ChkWrite cell s) false cell spot (λ c mode. Act.Write c mode (ref m r)) (λ c v n. gives_up (Replaced c) (set_ref r (pos 0) n)) s spot.mode refl (λ c z. z) (λ c z. z) (λ c z. z) e h)
-  no_head m d s (Op.TakeCell r cell spot) e h = false_true (unchecked m (ChkWrite cell s) false cell spot (λ c mode. Act.Take (Taken.Cell c mode) (take_kind_of spot.at)) (λ c v. set_ref r v) s spot.mode refl (λ c z. z) (λ c z. z) (λ c z. z) e h)
+  no_head m d s (Op.Load i cell spot) e h = unchecked m (Instr.ChkRead cell s) d cell spot Act.Read (λ c v. set_int i v) s spot.mode refl (λ c z. z) (λ c z. z) (λ c z. z) e h
+  no_head m d s (Op.Store i cell spot) e h = unchecked m (Instr.ChkWrite cell s) d cell spot (λ c mode. Act.Write c mode (int m i)) (λ c v n. n) s spot.mode refl (λ c z. z) (λ c z. z) (λ c z. z) e h
+  no_head m d s (Op.LoadRef r cell spot) e h = false_true (unchecked m (Instr.ChkRead cell s) false cell spot Act.Read (λ c v. set_ref r v) s spot.mode refl (λ c z. z) (λ c z. z) (λ c z. z) e h)
+  no_head m d s (Op.StoreRef r cell spot) e h = false_true (unchecked m (Instr.ChkWrite cell s) false cell spot (λ c mode. Act.Write c mode (ref m r)) (λ c v n. gives_up (Replaced c) (set_ref r (pos 0) n)) s spot.mode refl (λ c z. z) (λ c z. z) (λ c z. z) e h)
+  no_head m d s (Op.TakeCell r cell spot) e h = false_true (unchecked m (Instr.ChkWrite cell s) false cell spot (λ c mode. Act.Take (Taken.Cell c mode) (take_kind_of spot.at)) (λ c v. set_ref r v) s spot.mode refl (λ c z. z) (λ c z. z) (λ c z. z) e h)
   no_head m d s _ e h = absurd h
 
   needs_told : (site : Site) (act : Act) (go : ℤ → Thread) (t : Turn) → Tells p (Form.Asks site act go) t → NeedsCheck act → NeedsTurn t

@@ -1,5 +1,5 @@
 -- One statement of flat code and its own guarded statement.
-use Rattle.sharc_guard.proofs.{Imports.{◌≡◌, ◌≢◌, ℕ, ℤ, pos, negsuc, suc, ◌+◌, ◌*◌, ◌<◌, ◌≤◌, inl, inr, Bool, true, false, not, List, [], ◌∷◌, ◌++◌, length, Some, None, refl, sym, ap, ◌∙◌, subst, arith, cond, ⊎_elim, Result, Ok, Err, cases_eq, cases_lt, nat_tests, fun_ext, nat_lt, ◌==◌, Act, CellAt, CellMode, SourceEvent, Site, Trap, Taken, Function, Readonly, Use, Cell, Instr, RaiseLoaded, Lower, MoveReference, Register, Char, Int, Long, computed, negated, holds, complement, truth, GivenUp, Released, Replaced, Emptied, is_zero, is_equal, held_mutexes, holds_mutex, locked_by, unlocked_by, number_of, elements_of, stopped, event_of, answer_of, is_positive, Op, Spot, Flat, Caller, At, Turn, goes, asks, put, int, ref, set_int, set_ref, gives_up, popped, moved, settled, next, over_lines, goes_on, stops, asserts, with_result, cell_at, base_of, without_base, cell_mode_of, lock_is_null, instance_mode, accessed, accesses, event, indexed, take_kind_of, variable_of, takes_local, called, returned, argument, handed, op_turn, with_event, Program, Thread, source_at, place, guarded, own, body, tail, Slot, free, full, Slots, with_slot, with_moved, without_cell, slot_of, without_handed, Enters, Calls, Resumes, Leaves, Level, IsLevel, IsEnd, AreLowered}, Places.{IsPlaceOf, spot_of}, Holding.{quiet_held, lock_held, unlock_held}, Beside.{zero_same, kind_same, variable_same, callers, callers_length, beside, cell_same, mode_same, argument_same, object_same}, Ready.{put_at, put_other, moved_same, Is, Hold, hold_as, Frames, Ready, enters, keeps as keeps_at, puts as puts_at, moves as moves_at, call_ready as call_ready_at, return_ready as return_ready_at, null_here as null_here_at, is_free as is_free_at}, Near.{Near, Follow, lands}, Placing.{entered_is}}
+use Rattle.sharc_guard.proofs.{Imports.{◌≡◌, ◌≢◌, ℕ, ℤ, pos, negsuc, suc, ◌+◌, ◌*◌, ◌<◌, ◌≤◌, inl, inr, Bool, true, false, not, List, [], ◌∷◌, ◌++◌, length, Some, None, refl, sym, ap, ◌∙◌, subst, arith, cond, ⊎_elim, Result, Ok, Err, cases_eq, cases_lt, nat_tests, fun_ext, nat_lt, ◌==◌, Act, CellAt, CellMode, SourceEvent, Site, Trap, Taken, Function, Readonly, Use, Cell, Instr, Register, Char, Int, Long, computed, negated, holds, complement, truth, GivenUp, Released, Replaced, Emptied, is_zero, is_equal, held_mutexes, holds_mutex, locked_by, unlocked_by, number_of, elements_of, stopped, event_of, answer_of, is_positive, Op, Spot, Flat, Caller, At, Turn, goes, asks, put, int, ref, set_int, set_ref, gives_up, popped, moved, settled, next, over_lines, goes_on, stops, asserts, with_result, cell_at, base_of, without_base, cell_mode_of, lock_is_null, instance_mode, accessed, accesses, event, indexed, take_kind_of, variable_of, takes_local, called, returned, argument, handed, op_turn, with_event, Program, Thread, source_at, place, guarded, own, body, tail, Slot, free, full, Slots, with_slot, with_moved, without_cell, slot_of, without_handed, Enters, Calls, Resumes, Leaves, Level, IsLevel, IsEnd, AreLowered}, Places.{IsPlaceOf, spot_of}, Holding.{quiet_held, lock_held, unlock_held}, Beside.{zero_same, kind_same, variable_same, callers, callers_length, beside, cell_same, mode_same, argument_same, object_same}, Ready.{put_at, put_other, moved_same, Is, Hold, hold_as, Frames, Ready, enters, keeps as keeps_at, puts as puts_at, moves as moves_at, call_ready as call_ready_at, return_ready as return_ready_at, null_here as null_here_at, is_free as is_free_at}, Near.{Near, Follow, lands}, Placing.{entered_is}}
 use Rattle.sharc_code.specs.Arithmetic as Code
 use Rattle.sharc_code.specs.Machine as CodeMachine
 use Rattle.sharc_code.specs.Says as Says
@@ -219,7 +219,7 @@ module _ (dropped : ℕ → Bool) (flat : Flat) (level : IsLevel flat) (m : At) 
 
   -- a reference was loaded, and is raised next
   loads : (e : q + 2 ≡ pl (m.pc + 1)) (r : ℕ) (x : ℤ) (ev : SourceEvent) → log ≡ held_mutexes (m.events ++ ev ∷ []) → here r ≡ free → En (with_slot here r full) (m.pc + 1)
-      → N (accessed (next (set_ref r x (with_event ev m)))) (record me { pc = q + 1; pending = x; lowered = []; events = m.events ++ ev ∷ [] }) (RaiseLoaded r ∷ [])
+      → N (accessed (next (set_ref r x (with_event ev m)))) (record me { pc = q + 1; pending = x; lowered = []; events = m.events ++ ev ∷ [] }) (Instr.RaiseLoaded r ∷ [])
   loads e r x ev eh fr en =
       let m2 = accessed (next (set_ref r x (with_event ev m))) in
       let i = m.ref_base + r in
@@ -243,7 +243,7 @@ module _ (dropped : ℕ → Bool) (flat : Flat) (level : IsLevel flat) (m : At) 
 
   -- a reference went into a cell, and the old one is lowered next
   stores : (e : q + 2 ≡ pl (m.pc + 1)) (r : ℕ) (c : CellAt) (x : ℤ) (ev : SourceEvent) → log ≡ held_mutexes (m.events ++ ev ∷ []) → En (with_slot here r free) (m.pc + 1)
-      → N (accessed (next (gives_up (Replaced c) (set_ref r (pos 0) (with_event ev m))))) (record me { pc = q + 1; refs = put m.refs (m.ref_base + r) x; pending = pos 0; lowered = []; events = m.events ++ ev ∷ [] }) (Lower r ∷ [])
+      → N (accessed (next (gives_up (Replaced c) (set_ref r (pos 0) (with_event ev m))))) (record me { pc = q + 1; refs = put m.refs (m.ref_base + r) x; pending = pos 0; lowered = []; events = m.events ++ ev ∷ [] }) (Instr.Lower r ∷ [])
   stores e r c x ev eh en =
       let m2 = accessed (next (gives_up (Replaced c) (set_ref r (pos 0) (with_event ev m)))) in
       let i = m.ref_base + r in
@@ -269,7 +269,7 @@ module _ (dropped : ℕ → Bool) (flat : Flat) (level : IsLevel flat) (m : At) 
       }
 
   -- a variable's reference was lowered, and its new one moves next
-  settles : (e : q + 2 ≡ pl (m.pc + 1)) (x from : ℕ) → x ≢ from → En (with_moved here x from) (m.pc + 1) → N (next (settled x from m)) (Form.next (Form.lowered me x)) (MoveReference x from ∷ [])
+  settles : (e : q + 2 ≡ pl (m.pc + 1)) (x from : ℕ) → x ≢ from → En (with_moved here x from) (m.pc + 1) → N (next (settled x from m)) (Form.next (Form.lowered me x)) (Instr.MoveReference x from ∷ [])
   settles e x from ne en =
       let m2 = next (settled x from m) in
       let i = m.ref_base + x in
@@ -489,11 +489,11 @@ module _ (dropped : ℕ → Bool) (flat : Flat) (level : IsLevel flat) (m : At) 
       (λ mode x. let c = cell_at flat.globals m cell in let m2 = accessed (next (with_event (event_of spot.site (Act.Write c mode (int m i)) (pos 0)) m)) in
       behind (omega arith) m2 (keeps m2 lv refl refl refl) (plain spot.site (Act.Write c mode (int m i)) (pos 0) refl refl) refl refl)
   follows (Op.LoadRef r cell spot) lv k way e =
-      accessing (RaiseLoaded r ∷ []) cell spot Act.Read (λ c v. set_ref r v) Form.given (λ x b. Form.next (record b { pending = x })) (k spot refl) way
+      accessing (Instr.RaiseLoaded r ∷ []) cell spot Act.Read (λ c v. set_ref r v) Form.given (λ x b. Form.next (record b { pending = x })) (k spot refl) way
       (λ mode x. let c = cell_at flat.globals m cell in
       loads (omega arith) r x (event_of spot.site (Act.Read c mode) x) (plain spot.site (Act.Read c mode) x refl refl) lv.0 lv.1)
   follows (Op.StoreRef r cell spot) lv k way e =
-      accessing (Lower r ∷ []) cell spot (λ c mode. Act.Write c mode (ref m r)) (λ c v n. gives_up (Replaced c) (set_ref r (pos 0) n)) Form.no_answer (λ x b. Form.next (Form.accessed (Form.set_ref b r x))) (k spot refl) way
+      accessing (Instr.Lower r ∷ []) cell spot (λ c mode. Act.Write c mode (ref m r)) (λ c v n. gives_up (Replaced c) (set_ref r (pos 0) n)) Form.no_answer (λ x b. Form.next (Form.accessed (Form.set_ref b r x))) (k spot refl) way
       (λ mode x. let c = cell_at flat.globals m cell in
       stores (omega arith) r c x (event_of spot.site (Act.Write c mode (ref m r)) (pos 0)) (plain spot.site (Act.Write c mode (ref m r)) (pos 0) refl refl) lv)
   follows (Op.LoadGuard cell spot) lv k way e =

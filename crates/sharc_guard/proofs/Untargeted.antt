@@ -1,5 +1,5 @@
 -- Nothing leads to an access whose check is dropped.
-use Rattle.sharc_guard.proofs.{Imports.{◌≡◌, ℕ, zero, suc, ◌+◌, ◌-◌, ◌<◌, ◌≤◌, Bool, true, false, List, [], ◌∷◌, ◌++◌, length, Some, refl, sym, ap, ◌∙◌, subst, ⊎_elim, arith, slice_get, get_or as slice_index_or, cases_lt, or_right, or_left, length-append, length-map, ◌==◌, Function, Instr, Start, Exit, ChkRead, ChkWrite, Load, Store, LoadRef, Exchange, Char, no_function, Kind, Op, Spot, Flat, Program, expand, head, body, tail, own, offset, place, guarded, entered_at, check_under, access_of, LeadsTo, IsNoTarget, leads_to, line_leads, is_led_to, is_entry, is_target, is_dynamic, tells, has_passed, place_of, known, drops, drops_at, dropped, DroppedIsNoTarget, and_left, within}, Checking.{grows, at_line}, Framing.{AllIn, all_append, all_at, head_all}, Placing.{entered_is, width_is, place_next}, Repeating.{eq_same, no_some, true_false, dynamic_is, repeated}}
+use Rattle.sharc_guard.proofs.{Imports.{◌≡◌, ℕ, zero, suc, ◌+◌, ◌-◌, ◌<◌, ◌≤◌, Bool, true, false, List, [], ◌∷◌, ◌++◌, length, Some, refl, sym, ap, ◌∙◌, subst, ⊎_elim, arith, slice_get, get_or as slice_index_or, cases_lt, or_right, or_left, length-append, length-map, ◌==◌, Function, Instr, Char, no_function, Kind, Op, Spot, Flat, Program, expand, head, body, tail, own, offset, place, guarded, entered_at, check_under, access_of, LeadsTo, IsNoTarget, leads_to, line_leads, is_led_to, is_entry, is_target, is_dynamic, tells, has_passed, place_of, known, drops, drops_at, dropped, DroppedIsNoTarget, and_left, within}, Checking.{grows, at_line}, Framing.{AllIn, all_append, all_at, head_all}, Placing.{entered_is, width_is, place_next}, Repeating.{eq_same, no_some, true_false, dynamic_is, repeated}}
 use Rattle.sharc_guard.specs.Checked.{Access}
 use Rattle.sharc_guard.specs.Known as Known
 
@@ -92,10 +92,10 @@ count pl drop n o i e =
 
 -- that of an access, one at least
 is_some : (pl : ℕ → ℕ) (drop : Bool) (n : ℕ) (o : Op) (a : Known.Access) → Known.access o ≡ Some a → 0 < length (expand pl drop n o)
-is_some pl drop n (Op.Load i cell spot) a e = let c = count pl drop n (Op.Load i cell spot) (Load i cell n) refl in omega arith
-is_some pl drop n (Op.Store i cell spot) a e = let c = count pl drop n (Op.Store i cell spot) (Store i cell n) refl in omega arith
-is_some pl drop n (Op.LoadRef r cell spot) a e = let c = count pl drop n (Op.LoadRef r cell spot) (LoadRef cell n) refl in omega arith
-is_some pl drop n (Op.StoreRef r cell spot) a e = let c = count pl drop n (Op.StoreRef r cell spot) (Exchange r cell n) refl in omega arith
+is_some pl drop n (Op.Load i cell spot) a e = let c = count pl drop n (Op.Load i cell spot) (Instr.Load i cell n) refl in omega arith
+is_some pl drop n (Op.Store i cell spot) a e = let c = count pl drop n (Op.Store i cell spot) (Instr.Store i cell n) refl in omega arith
+is_some pl drop n (Op.LoadRef r cell spot) a e = let c = count pl drop n (Op.LoadRef r cell spot) (Instr.LoadRef cell n) refl in omega arith
+is_some pl drop n (Op.StoreRef r cell spot) a e = let c = count pl drop n (Op.StoreRef r cell spot) (Instr.Exchange r cell n) refl in omega arith
 is_some pl drop n _ a e = no_some a e
 
 -- without its check, an access alone
@@ -104,12 +104,12 @@ unchecked dynamic spot n e = ap (check_under true dynamic spot n) (dynamic_is sp
 
 is_one : (pl : ℕ → ℕ) (k : Known.Know) (n : ℕ) (o : Op) → drops k o ≡ true → length (expand pl true n o) ≡ 1
 is_one pl k n (Op.Load i cell spot) e =
-    let c = count pl true n (Op.Load i cell spot) (Load i cell n) refl in
-    let h = ap length (unchecked (ChkRead cell n) spot n (and_left (tells spot) (has_passed k Kind.Read (place_of k cell)) e)) in
+    let c = count pl true n (Op.Load i cell spot) (Instr.Load i cell n) refl in
+    let h = ap length (unchecked (Instr.ChkRead cell n) spot n (and_left (tells spot) (has_passed k Kind.Read (place_of k cell)) e)) in
     omega arith
 is_one pl k n (Op.Store i cell spot) e =
-    let c = count pl true n (Op.Store i cell spot) (Store i cell n) refl in
-    let h = ap length (unchecked (ChkWrite cell n) spot n (and_left (tells spot) (has_passed k Kind.Write (place_of k cell)) e)) in
+    let c = count pl true n (Op.Store i cell spot) (Instr.Store i cell n) refl in
+    let h = ap length (unchecked (Instr.ChkWrite cell n) spot n (and_left (tells spot) (has_passed k Kind.Write (place_of k cell)) e)) in
     omega arith
 is_one pl k n _ e = true_false (sym e)
 
@@ -154,8 +154,8 @@ module _ (flat : Flat) where
       (cases_lt n t)
 
   leading : (q : ℕ) (i : Instr) (pc : ℕ) → slice_get p.statements q ≡ Some i → LeadsTo i pc → (t : ℕ) × (is_target flat t ≡ true) × (pl t ≡ pc)
-  leading zero i pc e h = let s : Start 0 ≡ i = cc in absurd (subst (λ i. LeadsTo i pc) (sym s) h)
-  leading (suc zero) i pc e h = let s : Exit ≡ i = cc in absurd (subst (λ i. LeadsTo i pc) (sym s) h)
+  leading zero i pc e h = let s : Instr.Start 0 ≡ i = cc in absurd (subst (λ i. LeadsTo i pc) (sym s) h)
+  leading (suc zero) i pc e h = let s : Instr.Exit ≡ i = cc in absurd (subst (λ i. LeadsTo i pc) (sym s) h)
   leading (suc (suc q)) i pc e h =
       let w = at_line flat d (suc (suc q)) i (omega arith) e in
       let l = all_at (Leads pl w.line w.op_is) (expand pl (d w.line) w.line w.op_is) w.step i (all_leads pl (d w.line) w.line w.op_is) w.statement pc h in (
@@ -175,8 +175,8 @@ module _ (flat : Flat) where
   }
 
   at_access : (pc : ℕ) (i : Instr) (a : Access) → slice_get p.statements pc ≡ Some i → access_of i ≡ Some a → d a.site ≡ true → IsNoTarget p pc
-  at_access zero i a e acc dr = let s : Start 0 ≡ i = cc in no_some a (ap access_of s ∙ acc)
-  at_access (suc zero) i a e acc dr = let s : Exit ≡ i = cc in no_some a (ap access_of s ∙ acc)
+  at_access zero i a e acc dr = let s : Instr.Start 0 ≡ i = cc in no_some a (ap access_of s ∙ acc)
+  at_access (suc zero) i a e acc dr = let s : Instr.Exit ≡ i = cc in no_some a (ap access_of s ∙ acc)
   at_access (suc (suc q)) i a e acc dr =
       let w = at_line flat d (suc (suc q)) i (omega arith) e in
       let site_is = all_at (Sited w.line) (expand pl (d w.line) w.line w.op_is) w.step i (all_sited pl (d w.line) w.line w.op_is) w.statement a acc in

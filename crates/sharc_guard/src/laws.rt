@@ -2,7 +2,7 @@
 
 ghost use Rattle.sharc_guard.specs.{Checked.AccessesAreChecked, Correct.GuardedKeepsPaths, Counted.GuardedCounts};
 ghost use Rattle.sharc_guard.specs.{Covered.DroppedIsCovered, Example.HasExample, Framed.FramedIsGuarded};
-ghost use Rattle.sharc_guard.specs.{Logged.LogsAreHeld, Repeated.{DropsRepeated, RepeatedCheckStands}};
+ghost use Rattle.sharc_guard.specs.{Logged.{LogsAreHeld, TurnsLeave}, Repeated.{DropsRepeated, RepeatedCheckStands}};
 ghost use Rattle.sharc_guard.specs.{Tables.TablesStay, Untargeted.DroppedIsNoTarget};
 
 /// Guarded code asks for what flat code asks for, whichever checks are dropped: each of its paths is one of flat code
@@ -33,6 +33,12 @@ pub fn checked_law()
 /// comes next, or given up on the way.
 pub fn counted_law()
     ensures { GuardedCounts }
+{}
+
+/// A turn of guarded code reports the event that it asks for, which the log follows, and has lowered nothing since; any
+/// other turn leaves both, and only a Lower lowers something.
+pub fn turns_law()
+    ensures { TurnsLeave }
 {}
 
 /// On each path of guarded code the log has the mutexes that the events of the path hold.

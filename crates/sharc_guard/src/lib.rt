@@ -25,5 +25,5 @@ pub use guarded::Guarded;
 pub use guarding::guard;
 pub use laws::{
     checked_law, counted_law, covered_law, example_law, framed_law, guarded_law, log_law,
-    repeated_law, tables_law,
+    repeated_law, tables_law, turns_law,
 };

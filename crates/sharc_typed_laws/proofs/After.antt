@@ -1,5 +1,6 @@
 -- What a typed operation of a straight piece leaves: registers that it does not write hold what they held, and indexes of globals are past granule 0.
 use Rattle.sharc_typed_laws.proofs.Imports.{◌≡◌, ◌≢◌, ℕ, ◌≤◌, Bool, true, false, cond, Option, Some, refl, sym, ◌∙◌, subst, ⊎_elim, false≢true, none-some, nat_eq, Code, Char, Int, Long, put, Op, is_straight, writes_ref, writes_int, number_given, Targets, StaticType, Entry, Empty, Refers, Unknown, Number, Anything, Exactly, Within, Indexes, OfElement, OfGlobal, Closed, Label, Labels, LessEntry, LessNumber, Less, set_number, fill, empty, forgets, forgotten, without_index, some_names, gated, behind, TypedLine, not_left, not_right}
+use Rattle.sharc_flat_laws.specs.Tables.{OpPast}
 
 -- the number of a cell of a global is none of granule 0
 abbrev pub IsPast : Number → Type 0
@@ -7,9 +8,6 @@ IsPast (OfGlobal first count elements e) = 2 ≤ first
 IsPast _ = Unit {0}
 
 -- nor does an operation make one that is
-abbrev pub OpPast : Op → Type 0
-OpPast (Op.GlobalBounds i elements cells field spot) = 2 ≤ field
-OpPast _ = Unit {0}
 
 -- ---- knowing less
 less_past : (a b : Number) → LessNumber a b → IsPast a → IsPast b

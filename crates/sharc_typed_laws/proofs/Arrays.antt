@@ -1,6 +1,7 @@
 -- What is indexed as an array is a global of the program, so none of its cells is one of granule 0.
 use Rattle.sharc_typed_laws.proofs.Imports.{◌≡◌, ℕ, zero, suc, ◌+◌, ◌<◌, ◌≤◌, Bool, true, false, cond, ◌||◌, List, [], ◌∷◌, ◌++◌, length, Option, Some, None, refl, arith, Contains-append_right, slice_get, slice_index_or, Contains, AllByRecursion, NumberType, Declaration, GlobalDefinition, Dot, Constant, UnaryOperator, Not, Dereference, expressions, Expression, identifier, constant, parentheses, call, index, field, unary, binary, Function, Name, Kind, array, int, long, is_array, element_kind, is_long, no_global, OperatorClass, class_of, number_kind, constant_kind, unary_result, binary_result, Resolution, globals_in, named_at, function_at, declaration_at, variable_kind, result_kind_of, global_kind_of, named_kind, called_kind, kind_at, Assignment, IsFunction, field_place_named, first_cell, Target, in_global, in_global_at, in_object_at, global_of, own_field, named_target, target, granules_in, globals_from, globals_of, AreGlobalsNamed, never as none_of}
-use Rattle.sharc_tree.specs.Measures.{in_function}
+use Rattle.sharc_tree.specs.Measures.{in_function as expressions_in}
+use Rattle.sharc_flat_laws.specs.Tables.{NamesGlobal}
 use Rattle.sharc_names.specs.declared.fault.Named.TheVariants as named
 
 -- ---- the table of globals
@@ -79,12 +80,8 @@ module _ (r : Resolution) where
   some_array _ e = none_of e
 
   -- ---- what an lvalue names
-  abbrev pub NamesGlobal : Expression → Type 0
-  NamesGlobal (identifier s x) = (g : ℕ) → named_at r x.site.token ≡ named.Global g → g < count
-  NamesGlobal e = Unit {0}
-
   abbrev pub Named : List Expression → Type 0
-  Named = AllByRecursion NamesGlobal
+  Named = AllByRecursion (NamesGlobal r)
 
   pub named_left : (xs ys : List Expression) → Named (xs ++ ys) → Named xs
   named_left [] ys h = tt
@@ -128,9 +125,14 @@ all_named : (r : Resolution) (es : List Expression) → ((e : Expression) → Co
 all_named r [] h = tt
 all_named r (e ∷ es) h = (h e (0, omega arith, refl), all_named r es (λ d c. h d (Contains-append_right (e ∷ []) es d c)))
 
-pub function_named : (m : Assignment) → AreGlobalsNamed m → (f : Function) → IsFunction m f → Named m.typed (in_function f)
-function_named m known f is = all_named m.typed (in_function f) each
+function_named : (m : Assignment) → AreGlobalsNamed m → (f : Function) → IsFunction m f → Named m.typed (expressions_in f)
+function_named m known f is = all_named m.typed (expressions_in f) each
   where
-    each : (e : Expression) → Contains (in_function f) e → NamesGlobal m.typed e
+    each : (e : Expression) → Contains (expressions_in f) e → NamesGlobal m.typed e
     each (identifier s x) inside = known s x (record { owner = f; stands = is; inside = inside })
     each _ inside = tt
+
+-- and of all functions
+pub globals_there : (m : Assignment) → AreGlobalsNamed m → (fs : List Function) → ((f : Function) → Contains fs f → IsFunction m f) → AllByRecursion (λ f. Named m.typed (expressions_in f)) fs
+globals_there m known [] are = tt
+globals_there m known (f ∷ rest) are = (function_named m known f (are f (0, omega arith, refl)), globals_there m known rest (λ g c. are g (Contains-append_right (f ∷ []) rest g c)))

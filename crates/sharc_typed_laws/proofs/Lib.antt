@@ -31,7 +31,6 @@ pub mod Losing
 pub mod Moves
 pub mod Parts
 pub mod Passing
-pub mod Past
 pub mod Pieces
 pub mod Preorder
 pub mod Program

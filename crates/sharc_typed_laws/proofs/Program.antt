@@ -1,5 +1,6 @@
 -- The flat code of a typable program, with its texts laid out, is typed whatever checks are remembered.
-use Rattle.sharc_typed_laws.proofs.{Imports.{◌≡◌, ℕ, zero, suc, ◌+◌, ◌<◌, ◌≤◌, true, false, List, [], ◌∷◌, ◌++◌, length, map, max, Option, Some, None, refl, sym, ap, ◌∙◌, subst, arith, same_Some, none-some, slice_get_within, slice_get, slice_index_or, Function, declared_kind, Row, GlobalCells, Text, no_function, function_of, Resolution, functions_in, function_at, Assignment, FlatCode, Op, Flat, flat_function, flat_of, in_function, function_code, functions_code, rows_of, parameter_of, parameters_scope, Flattens, names_of, ints_needed, refs_needed, told_by, with_texts, AreLaid, AreNamed, FitsMade, int_count, ref_count, globals_of, place, entered_at, dropped, Less, Closed, IsScoped, MayStart, ints_in, refs_in, entry_label, FlatLabels, outside, To, IsTypedAnyhow, Mark, Setting, IsLine, flat_labels, labels_by, mark, Typing, label_of, AreAllLines, LinesAreTyped, LinesTell, LinesKnow, FunctionTypable, FunctionsAreTyped, AreGlobalsNamed, TypableProgram, IsSettingOf, found}, After.OpPast, Assembled.{table_of, agrees_self, past_marks, AllFunctions, all_marks, marks_many, owner_from, lines_are, begins_at}, Framing.{AreFew, are_within}, Past.{AllPast, functions_past}, Remembered.{variables, low}, Starting.{signature_plain, starts_by}, Texts.line_told}
+use Rattle.sharc_typed_laws.proofs.{Imports.{AllByRecursion, ◌≡◌, ℕ, zero, suc, ◌+◌, ◌<◌, ◌≤◌, true, false, List, [], ◌∷◌, ◌++◌, length, map, max, Option, Some, None, refl, sym, ap, ◌∙◌, subst, arith, same_Some, none-some, slice_get_within, slice_get, slice_index_or, Function, declared_kind, Row, GlobalCells, Text, no_function, function_of, Resolution, functions_in, function_at, Assignment, FlatCode, Op, Flat, flat_function, flat_of, in_function, function_code, functions_code, rows_of, parameter_of, parameters_scope, Flattens, names_of, ints_needed, refs_needed, told_by, with_texts, AreLaid, AreNamed, FitsMade, int_count, ref_count, globals_of, place, entered_at, dropped, Less, Closed, IsScoped, MayStart, ints_in, refs_in, entry_label, FlatLabels, outside, To, IsTypedAnyhow, Mark, Setting, IsLine, flat_labels, labels_by, mark, Typing, label_of, AreAllLines, LinesAreTyped, LinesTell, LinesKnow, FunctionTypable, FunctionsAreTyped, AreGlobalsNamed, TypableProgram, IsSettingOf, found}, Assembled.{table_of, agrees_self, past_marks, AllFunctions, all_marks, marks_many, owner_from, lines_are, begins_at}, Framing.{AreFew, are_within}, Arrays.{arrays_low, globals_there}, Remembered.{variables, low}, Starting.{signature_plain, starts_by}, Texts.line_told}
+use Rattle.sharc_flat_laws.specs.Tables.{MadeIsPast, OpPast}
 use Rattle.sharc_invariant.specs.Typed.{IsPlain}
 
 -- ---- lists
@@ -51,11 +52,7 @@ laid_length r bytes [] (q ∷ ps) h = absurd h
 laid_length r bytes (o ∷ os) [] h = absurd h
 laid_length r bytes (o ∷ os) (q ∷ ps) h = ap suc (laid_length r bytes os ps h.1)
 
-past_told : (a b : Text) (o : Op) → OpPast o → OpPast (with_texts a b o)
-past_told a b Op.Enter h = h
-past_told a b o h = h
-
-past_at : (os : List Op) → AllPast os → (n : ℕ) (o : Op) → slice_get os n ≡ Some o → OpPast o
+past_at : (os : List Op) → AllByRecursion OpPast os → (n : ℕ) (o : Op) → slice_get os n ≡ Some o → OpPast o
 past_at [] h n o at = absurd (none-some o at)
 past_at (x ∷ os) h zero o at = subst OpPast (same_Some x o at) h.0
 past_at (x ∷ os) h (suc n) o at = past_at os h.1 n o at
@@ -102,7 +99,7 @@ module _ (m : Assignment) (globals : List GlobalCells) where
   row_of_function pc (g ∷ fs) (suc n) f at = row_of_function (pc + length (function_code m globals pc g)) fs n f at
 
 -- ---- the whole
-module _ (typed_lines : LinesAreTyped) (tell : LinesTell) (know : LinesKnow) (functions_typed : FunctionsAreTyped) (m : Assignment) (flat : FlatCode) (flattens : Flattens m flat) (fits : FitsMade (flat_of flat)) (known : AreGlobalsNamed m)
+module _ (typed_lines : LinesAreTyped) (tell : LinesTell) (know : LinesKnow) (functions_typed : FunctionsAreTyped) (made_past : MadeIsPast) (m : Assignment) (flat : FlatCode) (flattens : Flattens m flat) (fits : FitsMade (flat_of flat)) (known : AreGlobalsNamed m)
     (z : Setting) (of : IsSettingOf z flat) (y : Typing) (t : TypableProgram z y m) where
   abbrev globals : List GlobalCells
   globals = globals_of m.typed
@@ -207,9 +204,7 @@ module _ (typed_lines : LinesAreTyped) (tell : LinesTell) (know : LinesKnow) (fu
       subst (IsLine z (owner n) table n (table n)) (sym w.is) (line_told w.lvalue w.lock z (owner n) table n (table n) w.of (told_lines n w.of w.at))
 
   past : (n : ℕ) (o : Op) → slice_get made.lines n ≡ Some o → OpPast o
-  past n o at =
-      let w = told_at m.typed bytes L made.lines lines_laid n o at in
-      subst OpPast (sym w.is) (past_told w.lvalue w.lock w.of (past_at L (functions_past m known 0 fs (λ f c. c)) n w.of w.at))
+  past n o at = past_at made.lines (made_past m (globals_there m known fs (λ f c. c)) (arrays_low m.typed) flat flattens) n o at
 
   -- ---- where functions begin
   entry_is : (f : ℕ) (g : Function) → FunctionTypable z f y (in_function m globals g) g → entry_label (labels_by z table) f ≡ label_of y (in_function m globals g) f
@@ -276,7 +271,7 @@ module _ (typed_lines : LinesAreTyped) (tell : LinesTell) (know : LinesKnow) (fu
     main_number = ap (λ n. (z.signature n).takes_ints 0) main_is ∙ (t.main flat.main flattens.main).number;
   }
 
-pub programs_typed : LinesAreTyped → LinesTell → LinesKnow → FunctionsAreTyped → (m : Assignment) (flat : FlatCode) → Flattens m flat → FitsMade (flat_of flat) → AreGlobalsNamed m → (z : Setting) → IsSettingOf z flat → (y : Typing) → TypableProgram z y m
+pub programs_typed : LinesAreTyped → LinesTell → LinesKnow → FunctionsAreTyped → MadeIsPast → (m : Assignment) (flat : FlatCode) → Flattens m flat → FitsMade (flat_of flat) → AreGlobalsNamed m → (z : Setting) → IsSettingOf z flat → (y : Typing) → TypableProgram z y m
     → (fl : FlatLabels) × IsTypedAnyhow z.targets z.code fl (flat_of flat)
-programs_typed typed_lines tell know functions m flat flattens fits known z of y t =
-    (flat_labels z (table typed_lines tell know functions m flat flattens fits known z of y t), program typed_lines tell know functions m flat flattens fits known z of y t)
+programs_typed typed_lines tell know functions made_past m flat flattens fits known z of y t =
+    (flat_labels z (table typed_lines tell know functions made_past m flat flattens fits known z of y t), program typed_lines tell know functions made_past m flat flattens fits known z of y t)

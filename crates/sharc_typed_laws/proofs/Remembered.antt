@@ -1,5 +1,6 @@
 -- A check that is remembered is one of a variable that stands, or of a cell of a global, which is none of granule 0.
-use Rattle.sharc_typed_laws.proofs.{Imports.{◌≡◌, ◌≢◌, ℕ, zero, suc, ◌+◌, ◌<◌, ◌≤◌, Bool, true, false, cond, List, [], ◌++◌, length, Option, Some, None, refl, sym, ap, ◌∙◌, subst, ⊎_elim, arith, false≢true, nat_tests, same_Some, none-some, slice_get, filter, nat_lt, Cell, Op, Flat, is_straight, is_target, writes_ref, writes_int, number_given, SimplePlace, in_variable, Access, access, tells, nothing, know_next, know_after, variable_place, global_place, place_of, known, drops, Targets, StaticType, Field, Empty, Refers, Element, Named, Nth, OfGlobal, Pass, IsIn, Label, HasField, AreGlobals, TypedLine, pass_at, pass_of_place, pass_by, stays, passes_after, passes_before, passes_in, with_passes, with_all, IsNumberOf, Knows, Mark, Setting, labels_by, Tells, AreAllLines, unless}, After.{IsPast, OpPast, After, after}, Passing.{of_filter, of_both}, Lines.{found, within}, Anyhow.fields_of}
+use Rattle.sharc_typed_laws.proofs.{Imports.{◌≡◌, ◌≢◌, ℕ, zero, suc, ◌+◌, ◌<◌, ◌≤◌, Bool, true, false, cond, List, [], ◌++◌, length, Option, Some, None, refl, sym, ap, ◌∙◌, subst, ⊎_elim, arith, false≢true, nat_tests, same_Some, none-some, slice_get, filter, nat_lt, Cell, Op, Flat, is_straight, is_target, writes_ref, writes_int, number_given, SimplePlace, in_variable, Access, access, tells, nothing, know_next, know_after, variable_place, global_place, place_of, known, drops, Targets, StaticType, Field, Empty, Refers, Element, Named, Nth, OfGlobal, Pass, IsIn, Label, HasField, AreGlobals, TypedLine, pass_at, pass_of_place, pass_by, stays, passes_after, passes_before, passes_in, with_passes, with_all, IsNumberOf, Knows, Mark, Setting, labels_by, Tells, AreAllLines, unless}, After.{IsPast, After, after}, Passing.{of_filter, of_both}, Lines.{found, within}, Anyhow.fields_of}
+use Rattle.sharc_flat_laws.specs.Tables.{OpPast}
 use Rattle.sharc_guard.specs.Known.{in_global}
 
 -- ---- lists

@@ -1,13 +1,13 @@
 -- Flat code that asks for nothing holds what it held before, and more turns change nothing once it has come to its next
 -- want, its stop or its end.
-use Rattle.sharc_wants_laws.proofs.{Imports.{◌≡◌, ℕ, zero, suc, ℤ, ◌+◌, true, List, [], ◌∷◌, refl, sym, ap, ◌∙◌, subst, arith, slice_get, refers, spent, Flat, At, goes, asks, halts, turn, on_turn, exec, Quietly}, Quiet.{IsQuiet, line_quiet, AreFrom}}
-use Rattle.sharc_flat.specs.Machine.{Turn}
+use Rattle.sharc_wants_laws.proofs.{Imports.{◌≡◌, ℕ, zero, suc, ℤ, ◌+◌, true, List, [], ◌∷◌, refl, sym, ap, ◌∙◌, subst, arith, slice_get, refers, spent, Flat, At, goes, asks, halts, turn, on_turn, exec, Quietly}}
+use Rattle.sharc_flat.specs.{Machine.{Turn}, Quiet.{AreFrom, IsQuiet, PathLaws}}
 
-pub quietly_from : (flat : Flat) (turns : ℕ) (m m2 : At) → Quietly flat turns m m2 → AreFrom m m2
-quietly_from flat zero m m2 q k n is = (k, subst (λ (a : At). refers n (a.refs k) ≡ true) (sym q) is)
-quietly_from flat (suc turns) m m2 q k n is =
-    let later = quietly_from flat turns q.0 m2 q.2 k n is in
-    (subst (IsQuiet m) q.1 (line_quiet flat (slice_get flat.lines m.pc) m)).1 later.0 n later.1
+pub quietly_from : (paths : PathLaws) (flat : Flat) (turns : ℕ) (m m2 : At) → Quietly flat turns m m2 → AreFrom m m2
+quietly_from paths flat zero m m2 q k n is = (k, subst (λ (a : At). refers n (a.refs k) ≡ true) (sym q) is)
+quietly_from paths flat (suc turns) m m2 q k n is =
+    let later = quietly_from paths flat turns q.0 m2 q.2 k n is in
+    (subst (IsQuiet m) q.1 (paths.quiet flat m)).1 later.0 n later.1
 
 -- ---- more turns
 pub more_turns : (flat : Flat) (turns more : ℕ) (answers : List ℤ) (m : At) → ((exec flat turns answers m).outcome ≡ spent → ⊥) → exec flat (turns + more) answers m ≡ exec flat turns answers m

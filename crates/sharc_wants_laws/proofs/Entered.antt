@@ -1,6 +1,7 @@
 -- So it is in the code that is made of flat code.
-use Rattle.sharc_wants_laws.proofs.{Imports.{◌≡◌, ℕ, zero, suc, ◌+◌, Bool, true, false, List, [], ◌∷◌, ◌++◌, map, refl, sym, ap, ◌∙◌, subst, arith, map-append, get_or as slice_index_or, functions_in, Row as Function, PlaceMode, Private, Racy, Dynamic, Cell, Operator, Width, Int, Instr, Op, Spot, flat_of, flattened, globals_of, instr_of, generated, check_under, compute, negate, expand, expanded, place, dropped, CodeWaits}, Entering.{IsEntered, AllWait, all_functions, all_laid}}
+use Rattle.sharc_wants_laws.proofs.{Imports.{◌≡◌, ℕ, zero, suc, ◌+◌, Bool, true, false, List, [], ◌∷◌, ◌++◌, map, refl, sym, ap, ◌∙◌, subst, arith, map-append, get_or as slice_index_or, functions_in, Row as Function, PlaceMode, Private, Racy, Dynamic, Cell, Operator, Width, Int, Instr, Op, Spot, flat_of, flattened, globals_of, instr_of, generated, check_under, compute, negate, expand, expanded, place, dropped, CodeWaits}}
 use Rattle.sharc_code.specs.declared.code.PlaceMode.TheVariants.{Readonly}
+use Rattle.sharc_flat_laws.specs.Tables.{AllWait, IsEntered, MadeWaits}
 
 -- a mutex is unlocked, and then the thread waits at the cell
 record IsNext (c : Cell) (is : List Instr) : Type 0 where
@@ -119,8 +120,8 @@ module _ (fs : List Function) where
         subst AllNext (sym (map-append f (expand pl (drop k) k o) (expanded pl drop (k + 1) os)))
         (piece (drop k) pl k o (map f (expanded pl drop (k + 1) os)) (waited (k + 1) o os h.0) (lines (k + 1) os h.1))
 
-pub code_waits : CodeWaits
-code_waits m flat flattens code is pc site c e =
+pub code_waits : MadeWaits → CodeWaits
+code_waits made m flat flattens code is pc site c e =
     let d = dropped (flat_of flat) in
     let all = flat.lines.items in
     let pl = place d all in
@@ -128,7 +129,7 @@ code_waits m flat flattens code is pc site c e =
     let functions_are : code.functions.items ≡ is.g.functions.items = λ i. (is.generated.functions i).items in
     let instrs_are : code.instrs.items ≡ Instr.Start 0 ∷ Instr.Exit ∷ map (instr_of fs) (expanded pl d 0 all) =
     is.generated.instrs ∙ ap (λ fs. generated fs is.g.statements.items) (sym functions_are) ∙ ap (generated fs) is.made.statements in
-    let waits : AllWait all = all_laid m.typed flat.texts.items (flattened m (globals_of m.typed)).lines all flattens.lays.lines (all_functions m (globals_of m.typed) (functions_in m.typed.program.items) 0).all in
+    let waits : AllWait all = made m flat flattens in
     let whole : AllNext (Instr.Start 0 ∷ Instr.Exit ∷ map (instr_of fs) (expanded pl d 0 all)) = (tt, (tt, lines fs d pl 0 all waits)) in
     let n = next_at code.instrs.items (subst AllNext (sym instrs_are) whole) pc site c e in
     record { register = n.register; mutex = n.mutex; unlock_site = n.unlock_site; wait_site = n.wait_site; unlocks = n.unlocks; waits = n.waits }

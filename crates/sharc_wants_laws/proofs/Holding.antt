@@ -1,7 +1,7 @@
 -- From the registers of code to what the program holds that was asked by the answers of its own events.
-use Rattle.sharc_wants_laws.proofs.{Imports.{◌≡◌, ◌≢◌, ℕ, zero, suc, ℤ, pos, ◌+◌, ◌<◌, ◌⊎◌, inl, inr, ⊎_elim, Bool, List, [], ◌∷◌, ◌++◌, length, map, refl, sym, ap, ◌∙◌, subst, arith, get_or, slice_get, append_assoc, append-nil, cond, ◌==◌, eq-eqb, true, false, false≢true, length-map, get_or-set_other, slice_index, get_or as slice_index_or, slice_set, CellAt, SourceEvent, Assignment, GivenUp, Emptied, Released, Replaced, number_of, IsNamedAt, answers_of, Code, Exit, TestSole, Free, Shape, Row as Function, Machine, instr_at, no_function, function_of, function_at, Flat, At, Came, goes, asks, halts, turn, on_turn, exec, start, at_after, asked, PathsAreRuns, AsksTheSame, MayStart, Guarded, Program, Thread, statement_at, started, thread_after, Resolved, AreLowered, GuardedCounts, IsReleased, IsReplaced, LocksStand, OnWay, Quietly, entered_at, guarded, place, IsLevel, Elements, begins, HasCome, IsGenerated, instr_of, program_of, IsReference, IsAt, IsLinking, is_freed, register_of, IsAccounted, IsLowered, IsTested, IsHolding, IsHoldingThere, IsEmptying}, Emptying.{at_free, not_linking}, Testing.{test_is, no_free, tested}, Quiet.{IsQuiet, line_quiet, same_given, given_in, given_same, given_path, are_own, beyond}, Wanting.{mapped_at, answers_by}, Cells.number_is}
+use Rattle.sharc_wants_laws.proofs.{Imports.{◌≡◌, ◌≢◌, ℕ, zero, suc, ℤ, pos, ◌+◌, ◌<◌, ◌⊎◌, inl, inr, ⊎_elim, Bool, List, [], ◌∷◌, ◌++◌, length, map, refl, sym, ap, ◌∙◌, subst, arith, get_or, slice_get, append_assoc, append-nil, cond, ◌==◌, eq-eqb, true, false, false≢true, length-map, get_or-set_other, slice_index, get_or as slice_index_or, slice_set, CellAt, SourceEvent, Assignment, GivenUp, Emptied, Released, Replaced, number_of, IsNamedAt, answers_of, Code, Exit, TestSole, Free, Shape, Row as Function, Machine, instr_at, no_function, function_of, function_at, Flat, At, Came, goes, asks, halts, turn, on_turn, exec, start, at_after, asked, AsksTheSame, MayStart, Guarded, Program, Thread, statement_at, started, thread_after, Resolved, AreLowered, GuardedCounts, IsReleased, IsReplaced, LocksStand, OnWay, Quietly, entered_at, guarded, place, IsLevel, Elements, begins, HasCome, IsGenerated, instr_of, program_of, IsReference, IsAt, IsLinking, is_freed, register_of, IsAccounted, IsLowered, IsTested, IsHolding, IsHoldingThere, IsEmptying}, Emptying.{at_free, not_linking}, Testing.{test_is, no_free, tested}, Wanting.{mapped_at, answers_by}, Cells.number_is}
 use Rattle.sharc_meaning.specs.Meaning as Meaning
-use Rattle.sharc_flat.specs.Machine.{Turn}
+use Rattle.sharc_flat.specs.{Machine.{Turn}, Quiet.{IsQuiet, PathLaws, given_in}}
 use Rattle.sharc_compile.specs.Correct.{by}
 
 -- ---- what flat code does without an answer
@@ -17,9 +17,9 @@ pub record Way (flat : Flat) (m final : At) : Type 0 where
   pub extra : List GivenUp
   pub given : final.given ≡ mid.given ++ extra
 
-pub way : (flat : Flat) (k : ℕ) (m : At) → Way flat m (exec flat k [] m).at
-way flat zero m = record { turns = 0; mid = m; quietly = refl; refs = refl; events = refl; same_events = refl; more = []; more_given = same_given m; extra = []; given = same_given m }
-way flat (suc k) m = by_turn (turn flat m) refl (line_quiet flat (slice_get flat.lines m.pc) m) (way flat k)
+pub way : (paths : PathLaws) (flat : Flat) (k : ℕ) (m : At) → Way flat m (exec flat k [] m).at
+way paths flat zero m = record { turns = 0; mid = m; quietly = refl; refs = refl; events = refl; same_events = refl; more = []; more_given = sym (append-nil m.given); extra = []; given = sym (append-nil m.given) }
+way paths flat (suc k) m = by_turn (turn flat m) refl (paths.quiet flat m) (way paths flat k)
   where
     by_turn : (t : Turn) → turn flat m ≡ t → IsQuiet m t → ((m2 : At) → Way flat m2 (exec flat k [] m2).at) → Way flat m (on_turn t [] m (exec flat k)).at
     by_turn (goes m2) e q rec =
@@ -36,8 +36,8 @@ way flat (suc k) m = by_turn (turn flat m) refl (line_quiet flat (slice_get flat
           extra = r.extra;
           given = r.given;
         }
-    by_turn (asks m2 site act held go) e q rec = record { turns = 0; mid = m; quietly = refl; refs = q.1; events = refl; same_events = q.0.0; more = []; more_given = same_given m; extra = q.0.1; given = q.0.2 }
-    by_turn (halts o) e q rec = record { turns = 0; mid = m; quietly = refl; refs = refl; events = refl; same_events = refl; more = []; more_given = same_given m; extra = []; given = same_given m }
+    by_turn (asks m2 site act held go) e q rec = record { turns = 0; mid = m; quietly = refl; refs = q.1; events = refl; same_events = q.0.0; more = []; more_given = sym (append-nil m.given); extra = q.0.1; given = q.0.2 }
+    by_turn (halts o) e q rec = record { turns = 0; mid = m; quietly = refl; refs = refl; events = refl; same_events = refl; more = []; more_given = sym (append-nil m.given); extra = []; given = sym (append-nil m.given) }
 
 -- ---- events
 -- ---- numbers
@@ -57,7 +57,7 @@ released_more (Replaced c ∷ gs) extra n h = released_more gs extra n h
 released_more (Emptied g ∷ gs) extra n h = released_more gs extra n h
 
 -- ---- instructions
-module _ (runs : PathsAreRuns) (counts : GuardedCounts) (m : Assignment) (flat : Flat) (same : AsksTheSame m flat) (level : IsLevel flat) (locks : LocksStand flat) (dropped : ℕ → Bool) (g : Guarded) (code : Code)
+module _ (paths : PathLaws) (counts : GuardedCounts) (m : Assignment) (flat : Flat) (same : AsksTheSame m flat) (level : IsLevel flat) (locks : LocksStand flat) (dropped : ℕ → Bool) (g : Guarded) (code : Code)
     (made : program_of g ≡ guarded dropped flat) (is : IsGenerated g code) (named : (f : ℕ) → f < length code.functions.items → IsNamedAt (function_at m.typed f) (function_of code f).site) (s : Shape) (T : Elements) (thread : ℕ) (at : Machine) (said : List SourceEvent) (lowered : List ℕ) (paced : ℕ)
     (h0 : HasCome code s (program_of g) T thread at said lowered paced) where
   abbrev p : Program
@@ -156,16 +156,16 @@ module _ (runs : PathsAreRuns) (counts : GuardedCounts) (m : Assignment) (flat :
       let ga = given_in flat st c.flat_answers in
       let xs = asked flat st ga in
       let b = same.back h.function may h.argument xs (length ga + 1) in
-      let f = beyond runs flat st ga (given_path flat st c.flat_answers c.path) b.later b.reached in
-      let final_is : exec flat b.later xs st ≡ exec flat (suc f.more) [] m2 = f.is ∙ ap (exec flat (suc f.more) []) (given_same flat st c.flat_answers) in
+      let f = paths.beyond flat st ga (paths.path flat st c.flat_answers c.path) b.later b.reached in
+      let final_is : exec flat b.later xs st ≡ exec flat (suc f.more) [] m2 = f.is ∙ ap (exec flat (suc f.more) []) (paths.same flat st c.flat_answers) in
       let last = (exec flat (suc f.more) [] m2).at in
-      let w = way flat (suc f.more) m2 in
+      let w = way paths flat (suc f.more) m2 in
       let final : last ≡ (exec flat b.later xs st).at = ap (λ (c : Came). c.at) (sym final_is) in
       let x = Meaning.asks m h.function h.argument xs b.fuel in
       let held : (j : ℕ) → last.refs j ≡ get_or x.held j (pos 0) = λ j. ap (λ (n : At). n.refs j) final ∙ b.same.held j in
       let given : x.given_up ≡ w.mid.given ++ w.extra = sym b.same.given_up ∙ ap (λ (n : At). n.given) (sym final) ∙ w.given in
       let events : a.events ≡ x.events = c.stands.events ∙ sym w.events ∙ sym w.same_events ∙ ap (λ (n : At). n.events) final ∙ b.same.events in
-      let answers : xs ≡ answers_of (map (by thread) a.events) = are_own flat h.function h.argument c.flat_answers ∙ ap answers_of (sym c.stands.events) ∙ sym (answers_by thread a.events) in
+      let answers : xs ≡ answers_of (map (by thread) a.events) = paths.own flat h.function h.argument c.flat_answers ∙ ap answers_of (sym c.stands.events) ∙ sym (answers_by thread a.events) in
       record {
         fuel = b.fuel;
         events = ap (λ xs. map (by thread) (Meaning.asks m h.function h.argument xs b.fuel).events) (sym answers) ∙ ap (map (by thread)) (sym events);
@@ -185,7 +185,7 @@ module _ (runs : PathsAreRuns) (counts : GuardedCounts) (m : Assignment) (flat :
             y.same.from_refs (λ k n e. number_here a k n e (y.same.in_refs.are k)));
         emptying = λ empties. subst (λ xs. IsEmptying code (Meaning.asks m h.function h.argument xs b.fuel) at) answers
             (let y : IsAt code s p T at a = ⊎_elim (λ (y : IsAt code s p T at a). y) (λ (l : IsLinking code s p T at a). absurd (not_linking l.elements at.own.stage empties l.stage)) h.stands in
-            at_free code s T g.functions.items flat p m2 a at x f.more y (instr_is at.at.pc) c.stands.tells (sym b.same.given_up ∙ ap (λ (n : At). n.given) (sym final))
+            at_free paths code s T g.functions.items flat p m2 a at x f.more y (instr_is at.at.pc) c.stands.tells (sym b.same.given_up ∙ ap (λ (n : At). n.given) (sym final))
             (λ k. number_here a k (slice_index at.refs k) refl (y.same.in_refs.are k)) empties);
       }
 

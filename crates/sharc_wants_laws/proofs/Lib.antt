@@ -20,7 +20,6 @@ pub mod Counting
 pub mod Elsewhere
 pub mod Emptying
 pub mod Entered
-pub mod Entering
 pub mod Followed
 pub mod Freed
 pub mod Given
@@ -29,7 +28,6 @@ pub mod Holding
 pub mod Keeping
 pub mod Nowhere
 pub mod Only
-pub mod Quiet
 pub mod Referred
 pub mod Registering
 pub mod Seeing

@@ -1,8 +1,9 @@
 -- From what the program holds to the registers of the code, by the answers of its own events.
-use Rattle.sharc_wants_laws.proofs.{Imports.{◌≡◌, ℕ, zero, suc, ℤ, pos, ◌+◌, ◌<◌, ◌≤◌, ◌⊎◌, inl, inr, ⊎_elim, Bool, true, false, not, ◌==◌, List, [], ◌∷◌, length, map, refl, sym, ap, ◌∙◌, subst, arith, get_or, cond, eq-eqb, eqb-true, Option, Some, None, false≢true, and_parts, other_register, get_or-set_other, length-map, slice_index, get_or as slice_index_or, slice_set, IsSomeAnd, Started, SourceEvent, function_at, Assignment, is_null, number_of, refers, IsNamedAt, answers_of, Outcome, spent, Code, Row as Function, Instr, Exit, Free, Lower, MoveReference, RaiseLoaded, TestSole, Shape, Stage, Links, TurnState, Stopped, Ended, Stop, Trapped, Machine, instr_at, no_function, function_of, may_go, reference, Flat, At, Came, exec, start, turn, at_after, asked, PathsAreRuns, AsksTheSame, MayStart, SameAs, Guarded, Program, Thread, statement_at, started, thread_after, GuardedCounts, Comes, Held, IsSettling, LocksStand, Tells, entered_at, guarded, place, IsLevel, Elements, IsNumber, begins, HasCome, IsGenerated, instr_of, program_of, IsAt, IsAtStage, IsLinking, IsOver, Refuses, StopsAt, is_freed, register_of, IsLoadedHere, IsRegistered, set_none}, Copying.{quietly_from, more_turns}, Holding.{Way, way}, Quiet.{given_in, given_same, given_path, are_own, beyond, IsBeyond}, Testing.{Wants, test_is, no_free, stays, wants_it}, Wanting.{mapped_at, answers_by}, Cells.number_is}
+use Rattle.sharc_wants_laws.proofs.{Imports.{◌≡◌, ℕ, zero, suc, ℤ, pos, ◌+◌, ◌<◌, ◌≤◌, ◌⊎◌, inl, inr, ⊎_elim, Bool, true, false, not, ◌==◌, List, [], ◌∷◌, length, map, refl, sym, ap, ◌∙◌, subst, arith, get_or, cond, eq-eqb, eqb-true, Option, Some, None, false≢true, and_parts, other_register, get_or-set_other, length-map, slice_index, get_or as slice_index_or, slice_set, IsSomeAnd, Started, SourceEvent, function_at, Assignment, is_null, number_of, refers, IsNamedAt, answers_of, Outcome, spent, Code, Row as Function, Instr, Exit, Free, Lower, MoveReference, RaiseLoaded, TestSole, Shape, Stage, Links, TurnState, Stopped, Ended, Stop, Trapped, Machine, instr_at, no_function, function_of, may_go, reference, Flat, At, Came, exec, start, turn, at_after, asked, AsksTheSame, MayStart, SameAs, Guarded, Program, Thread, statement_at, started, thread_after, GuardedCounts, Comes, Held, IsSettling, LocksStand, Tells, entered_at, guarded, place, IsLevel, Elements, IsNumber, begins, HasCome, IsGenerated, instr_of, program_of, IsAt, IsAtStage, IsLinking, IsOver, Refuses, StopsAt, is_freed, register_of, IsLoadedHere, IsRegistered, set_none}, Copying.{quietly_from, more_turns}, Holding.{Way, way}, Testing.{Wants, test_is, no_free, stays, wants_it}, Wanting.{mapped_at, answers_by}, Cells.number_is}
 use Rattle.sharc_meaning.specs.Meaning as Meaning
 use Rattle.sharc_guard.specs.Machine as Form
 use Rattle.sharc_compile.specs.Correct.{by}
+use Rattle.sharc_flat.specs.Quiet.{IsBeyond, PathLaws, given_in}
 
 -- ---- references and numbers
 -- what refers is the reference to an object
@@ -108,7 +109,7 @@ pub record StandsThere (m : Assignment) (code : Code) (thread : ℕ) (at : Machi
   pub site : IsNamedAt (function_at m.typed function) begins.site
   pub holds : MayStart m function → HoldsThere m code function argument (map (by thread) after) at
 
-module _ (runs : PathsAreRuns) (counts : GuardedCounts) (m : Assignment) (flat : Flat) (same : AsksTheSame m flat) (level : IsLevel flat) (locks : LocksStand flat) (dropped : ℕ → Bool) (g : Guarded) (code : Code)
+module _ (paths : PathLaws) (counts : GuardedCounts) (m : Assignment) (flat : Flat) (same : AsksTheSame m flat) (level : IsLevel flat) (locks : LocksStand flat) (dropped : ℕ → Bool) (g : Guarded) (code : Code)
     (made : program_of g ≡ guarded dropped flat) (is : IsGenerated g code) (named : (f : ℕ) → f < length code.functions.items → IsNamedAt (function_at m.typed f) (function_of code f).site) (s : Shape) (T : Elements) (thread : ℕ) (at : Machine) (said : List SourceEvent) (lowered : List ℕ) (paced : ℕ)
     (h0 : HasCome code s (program_of g) T thread at said lowered paced) where
   abbrev p : Program
@@ -201,7 +202,7 @@ module _ (runs : PathsAreRuns) (counts : GuardedCounts) (m : Assignment) (flat :
     xs = asked flat (start flat h.function h.argument) (given_in flat (start flat h.function h.argument) c.flat_answers)
 
     answers : xs ≡ answers_of (map (by thread) a.events)
-    answers = are_own flat h.function h.argument c.flat_answers ∙ ap answers_of (sym c.stands.events) ∙ sym (answers_by thread a.events)
+    answers = paths.own flat h.function h.argument c.flat_answers ∙ ap answers_of (sym c.stands.events) ∙ sym (answers_by thread a.events)
 
     module _ (later : ℕ) (le : length ga + 1 ≤ later) where
       abbrev x : Meaning.Asked
@@ -216,17 +217,17 @@ module _ (runs : PathsAreRuns) (counts : GuardedCounts) (m : Assignment) (flat :
           (f.turns + (length ga + 1), omega arith, subst (λ c. SameAs c x) (sym (more_turns flat f.turns (length ga + 1) xs st (λ z. over (sym f.same.outcome ∙ z)))) f.same))
           (is_spent x.outcome)
 
-      reached : IsBeyond runs flat (start flat h.function h.argument) ga (given_path flat st c.flat_answers c.path) many.0
-      reached = beyond runs flat st ga (given_path flat st c.flat_answers c.path) many.0 (inl many.1)
+      reached : IsBeyond flat (start flat h.function h.argument) ga many.0
+      reached = paths.beyond flat st ga (paths.path flat st c.flat_answers c.path) many.0 (inl many.1)
 
       abbrev last : At
       last = (exec flat (suc reached.more) [] m2).at
 
       final_is : exec flat many.0 xs st ≡ exec flat (suc reached.more) [] m2
-      final_is = reached.is ∙ ap (exec flat (suc reached.more) []) (given_same flat st c.flat_answers)
+      final_is = reached.is ∙ ap (exec flat (suc reached.more) []) (paths.same flat st c.flat_answers)
 
       w : Way flat m2 last
-      w = way flat (suc reached.more) m2
+      w = way paths flat (suc reached.more) m2
 
       held_is : (k : ℕ) → get_or x.held k (pos 0) ≡ w.mid.refs k
       held_is k = sym (many.2.held k) ∙ ap (λ (c : Came). c.at.refs k) final_is ∙ ap (λ (f : ℕ → ℤ). f k) w.refs
@@ -234,7 +235,7 @@ module _ (runs : PathsAreRuns) (counts : GuardedCounts) (m : Assignment) (flat :
       -- what is held then was held at the place
       held_by : (k n : ℕ) → refers n (get_or x.held k (pos 0)) ≡ true → IsRegistered code at n
       held_by k n there =
-          let was = quietly_from flat w.turns m2 w.mid w.quietly k n (refers_as n (get_or x.held k (pos 0)) (w.mid.refs k) (held_is k) there) in
+          let was = quietly_from paths flat w.turns m2 w.mid w.quietly k n (refers_as n (get_or x.held k (pos 0)) (w.mid.refs k) (held_is k) there) in
           registered a n h.stands (counted p m2 a c.stands.held was.0 n was.1)
 
       tested_by : (register site : ℕ) → instr_at code at.at.pc ≡ TestSole register site → (k n : ℕ) → refers n (get_or x.held k (pos 0)) ≡ true → slice_index at.refs k ≡ n

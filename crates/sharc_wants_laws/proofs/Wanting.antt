@@ -1,10 +1,10 @@
 -- From the place of a thread of code to what the program wants.
-use Rattle.sharc_wants_laws.proofs.{Imports.{◌≡◌, ℕ, zero, suc, ℤ, pos, ◌+◌, ◌<◌, inl, inr, ⊎_elim, Bool, true, false, List, [], ◌∷◌, length, map, refl, sym, ap, ◌∙◌, Some, subst, arith, IsSomeAnd, get_or as slice_index_or, Act, CellAt, CellMode, SourceEvent, Site, Taken, function_at, Assignment, Access, access_by, held_mutexes, IsNamedAt, answers_of, is_null, number_of, Outcome, wants, ended, stopped, event_of, Code, Row as Function, SourcePlace, Cell, Instr, CondWait, Load, Store, LoadRef, Exchange, TakeCell, ChkRead, ChkWrite, ChkLock, ChkLockLoaded, Exit, Shape, Runs, Stopped, Ended, Stop, Conflict, NoLock, NotSole, Trapped as Trap, Machine, instr_at, no_function, function_of, kind_of, made_cell, place_at, no_place, Flat, At, Came, asks, halts, turn, on_turn, exec, start, at_after, asked, PathsAreRuns, AsksTheSame, MayStart, Guarded, Program, Thread, Check, Accesses, Locks, IsSole, is_held, source_at, statement_at, started, thread_after, Guards, IsAccess, IsOf, IsUnder, Tells, LogsAreHeld, Elements, begins, HasCome, IsGenerated, instr_of, program_of, IsAt, IsLinking, IsOver, Same, StopsAt, ChecksNext, IsRefused, IsReport, WantsRefused, site_of, WantsAct, WantsAccess, WantsBy, StopsOrWantsUnder, IsWhere, IsThere, access_at, access_tested, int}, Quiet.{still, given_in, given_same, given_path, are_own, beyond}, Cells.{int_is, cell_is, access_is, pending_number}}
+use Rattle.sharc_wants_laws.proofs.{Imports.{◌≡◌, ℕ, zero, suc, ℤ, pos, ◌+◌, ◌<◌, inl, inr, ⊎_elim, Bool, true, false, List, [], ◌∷◌, length, map, refl, sym, ap, ◌∙◌, Some, subst, arith, IsSomeAnd, get_or as slice_index_or, Act, CellAt, CellMode, SourceEvent, Site, Taken, function_at, Assignment, Access, access_by, held_mutexes, IsNamedAt, answers_of, is_null, number_of, Outcome, wants, ended, stopped, event_of, Code, Row as Function, SourcePlace, Cell, Instr, CondWait, Load, Store, LoadRef, Exchange, TakeCell, ChkRead, ChkWrite, ChkLock, ChkLockLoaded, Exit, Shape, Runs, Stopped, Ended, Stop, Conflict, NoLock, NotSole, Trapped as Trap, Machine, instr_at, no_function, function_of, kind_of, made_cell, place_at, no_place, Flat, At, Came, asks, halts, turn, on_turn, exec, start, at_after, asked, AsksTheSame, MayStart, Guarded, Program, Thread, Check, Accesses, Locks, IsSole, is_held, source_at, statement_at, started, thread_after, Guards, IsAccess, IsOf, IsUnder, Tells, LogsAreHeld, Elements, begins, HasCome, IsGenerated, instr_of, program_of, IsAt, IsLinking, IsOver, Same, StopsAt, ChecksNext, IsRefused, IsReport, WantsRefused, site_of, WantsAct, WantsAccess, WantsBy, StopsOrWantsUnder, IsWhere, IsThere, access_at, access_tested, int}, Cells.{int_is, cell_is, access_is, pending_number}}
 use Rattle.sharc_tree.specs.declared.trap.Trap.TheVariants as traps
 use Rattle.sharc_heap.specs.declared.shadow_word.Kind.{Kind}
 use Rattle.sharc_meaning.specs.Meaning as Meaning
 use Rattle.sharc_code.specs.{declared.instr.Instr.TheVariants.{Lock, Join}, Says.cell_at}
-use Rattle.sharc_flat.specs.Machine.{Turn}
+use Rattle.sharc_flat.specs.{Machine.{Turn}, Quiet.{PathLaws, given_in}}
 use Rattle.sharc_guard.specs.Machine as Form
 use Rattle.sharc_compile.specs.Correct.{by}
 
@@ -125,7 +125,7 @@ module _ (flat : Flat) (m2 : At) (k : ℕ) (code : Code) (p : Program) (globals 
       by_stop (Trap trap n) r h = absurd r
 
 -- ---- a path
-module _ (runs : PathsAreRuns) (logs : LogsAreHeld) (m : Assignment) (flat : Flat) (same : AsksTheSame m flat) (dropped : ℕ → Bool) (p : Program) (guards : Guards dropped flat p) (count : length p.functions ≡ length flat.functions)
+module _ (paths : PathLaws) (logs : LogsAreHeld) (m : Assignment) (flat : Flat) (same : AsksTheSame m flat) (dropped : ℕ → Bool) (p : Program) (guards : Guards dropped flat p) (count : length p.functions ≡ length flat.functions)
     (g : Guarded) (code : Code) (made : program_of g ≡ p) (is : IsGenerated g code) (named : (f : ℕ) → f < length code.functions.items → IsNamedAt (function_at m.typed f) (function_of code f).site)
     (s : Shape) (T : Elements) (thread : ℕ) (at : Machine) (said : List SourceEvent) (lowered : List ℕ) (paced : ℕ) (h : HasCome code s p T thread at said lowered paced) where
   instr_is : (pc : ℕ) → instr_at code pc ≡ instr_of g.functions.items (statement_at p pc)
@@ -181,12 +181,12 @@ module _ (runs : PathsAreRuns) (logs : LogsAreHeld) (m : Assignment) (flat : Fla
       let ga = given_in flat st c.flat_answers in
       let xs = asked flat st ga in
       let b = same.back h.function may h.argument xs (length ga + 1) in
-      let f = beyond runs flat st ga (given_path flat st c.flat_answers c.path) b.later b.reached in
-      let final : exec flat b.later xs st ≡ exec flat (suc f.more) [] m2 = f.is ∙ ap (exec flat (suc f.more) []) (given_same flat st c.flat_answers) in
+      let f = paths.beyond flat st ga (paths.path flat st c.flat_answers c.path) b.later b.reached in
+      let final : exec flat b.later xs st ≡ exec flat (suc f.more) [] m2 = f.is ∙ ap (exec flat (suc f.more) []) (paths.same flat st c.flat_answers) in
       let x = Meaning.asks m h.function h.argument xs b.fuel in
       let outcome : o flat m2 f.more p ≡ x.outcome = ap (λ (c : Came). c.outcome) (sym final) ∙ b.same.outcome in
-      let events : a.events ≡ x.events = c.stands.events ∙ sym (still flat (suc f.more) m2) ∙ ap (λ (c : Came). c.at.events) (sym final) ∙ b.same.events in
-      let answers : xs ≡ answers_of told = are_own flat h.function h.argument c.flat_answers ∙ ap answers_of (sym c.stands.events) ∙ sym (answers_by thread a.events) in
+      let events : a.events ≡ x.events = c.stands.events ∙ sym (paths.still flat (suc f.more) m2).0 ∙ ap (λ (c : Came). c.at.events) (sym final) ∙ b.same.events in
+      let answers : xs ≡ answers_of told = paths.own flat h.function h.argument c.flat_answers ∙ ap answers_of (sym c.stands.events) ∙ sym (answers_by thread a.events) in
       record {
         fuel = b.fuel;
         events = ap (λ xs. map (by thread) (Meaning.asks m h.function h.argument xs b.fuel).events) (sym answers) ∙ ap (map (by thread)) (sym events);

@@ -15,13 +15,25 @@ use Rattle.sharc_code.specs.{Path.{begun, machine_after, CodePath}, Runs.{Turn, 
 use Rattle.sharc_code.specs.Whole.{CheckedRun, Erase, place_after}
 use Rattle.sharc_flat.specs.Correct.{MayStart}
 use Rattle.sharc_compile.specs.{Consistent.{Elements, said_in, IsConsistent}, Correct.IsBeginning, Lowered.lowered_in}
-use Rattle.sharc_compile.specs.{OfRuns.{elements_before, founds_of, told_in}, Held.{IsAmong, IsGivenUpLater}}
+use Rattle.sharc_compile.specs.{OfRuns.{elements_before, founds_of, told_in}}
 use Rattle.sharc_invariant.specs.Words.{register_of}
-use Rattle.sharc_guard.specs.{Correct.Resolved, Counted.IsGivenAway}
+use Rattle.sharc_guard.specs.{Correct.Resolved, Counted.{IsGivenAway, IsReleased}}
 use Rattle.sharc_compile_laws.specs.Threads.{TellsIn}
 use Rattle.sharc_wants_laws.specs.Emptying.{IsEmptying, is_emptying}
 
 -- ---- what a register has
+-- the program holds a reference to the object of this number
+abbrev pub IsAmong : List ℤ → ℕ → Type 0
+IsAmong held n = (j : ℕ) × (number_of (get_or held j (pos 0)) ≡ n)
+
+-- it is given up, after all that the code has lowered
+pub record IsGivenUpLater (given : List GivenUp) (lowered : List ℕ) (n : ℕ) : Type 0 where
+  pub before : List GivenUp
+  pub later : List GivenUp
+  pub is : given ≡ before ++ later
+  pub lowers : (next : List ℕ) × Resolved before (lowered ++ next)
+  pub released : IsReleased later n
+
 -- the old value of a cell that the program has just written, which an instruction lowers at the thread's place, or at
 -- the next one where the block of a freed object is linked
 pub record IsOldValue (code : Code) (at : Machine) (given : List GivenUp) (lowered : List ℕ) (k : ℕ) : Type 0 where

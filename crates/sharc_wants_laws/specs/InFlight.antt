@@ -8,8 +8,7 @@ use Rattle.sharc_meaning.specs.{References.{Begun, asked_with}, Runs.by}
 use Rattle.sharc_code.specs.{declared.code.Code.Code, declared.shape.Shape.Shape, Machine.Machine, Runs.Global}
 use Rattle.sharc_invariant.specs.{MachineInvariant.cell_refers, Types.Targets, Words.{register_of, staged_of}}
 use Rattle.sharc_invariant.specs.World.{ObjectState}
-use Rattle.sharc_compile.specs.Held.{IsGivenUpLater}
-use Rattle.sharc_wants_laws.specs.{Emptying.IsEmptying, Holding.IsOldValue}
+use Rattle.sharc_wants_laws.specs.{Emptying.IsEmptying, Holding.{IsGivenUpLater, IsOldValue}}
 
 -- with this fuel the thread has asked for all events that are its own, so what it has given up then it has given up
 -- since its last event

@@ -1,6 +1,8 @@
-//! The laws, each the contract of a function that does nothing.
+//! The laws, each the contract of a function that calls at most the laws that it joins.
 
 ghost use Rattle.sharc_wants_laws.specs.{Laws.CodeIsFollowed, Waits.CodeWaits};
+
+use sharc_flat_laws::laws::made_waits;
 
 /// In the code of flat code each check is directly before the access that it is of, at the same site, whose mode is one
 /// that asks for that check.
@@ -12,4 +14,6 @@ pub fn followed_law()
 /// condition.
 pub fn waits_law()
     ensures { CodeWaits }
-{}
+{
+    made_waits();
+}

@@ -25,7 +25,7 @@ use sharc_compile_laws::{
     functions_are_named, spawned_are_threads, threads_may_start, typed_threads_tell,
 };
 use sharc_ctype_laws::laws::each_names_itself;
-use sharc_flat::form_laws::paths_are_runs;
+use sharc_flat::form_laws::path_laws;
 use sharc_flat_laws::laws::{typed_asks_the_same, typed_is_framed};
 use sharc_guard::{counted_law, framed_law};
 use sharc_history_laws::{
@@ -48,7 +48,7 @@ pub fn path_holds()
     paths_law();
     framed_law();
     counted_law();
-    paths_are_runs();
+    path_laws();
 }
 
 /// So it is of each thread of a checked run of that code, by threads in any order, where the results of the paths of
@@ -88,7 +88,7 @@ pub fn held_registered()
     run_paths_law();
     framed_law();
     counted_law();
-    paths_are_runs();
+    path_laws();
 }
 
 /// And where a thread looks whether a reference is the only one, and two of its registers refer to the object, it holds

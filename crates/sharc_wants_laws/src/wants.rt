@@ -6,7 +6,7 @@ ghost use Rattle.sharc_wants_laws.specs.Wants.{PathsWant, ThreadsWant};
 use sharc_compile::{paths_law, run_paths_law};
 use sharc_compile_laws::flattened::{made_locks_stand, typed_is_level};
 use sharc_compile_laws::functions_are_named;
-use sharc_flat::form_laws::paths_are_runs;
+use sharc_flat::form_laws::path_laws;
 use sharc_flat_laws::laws::{typed_asks_the_same, typed_is_framed};
 use sharc_guard::{counted_law, framed_law, log_law};
 
@@ -26,7 +26,7 @@ pub fn path_wants()
     framed_law();
     counted_law();
     log_law();
-    paths_are_runs();
+    path_laws();
 }
 
 /// So it is of each thread of a checked run of that code, by threads in any order, where the results of the paths of

@@ -16,4 +16,4 @@ returns c = λ g code h good s thread elements founds path cons.
     let lowered = lowered_in code s first elements founds in
     let paced = paced_in code s first founds in
     subst (λ p. IsBeginning m said paced ⊎ HasCome code s p (elements (length founds)) thread m said lowered paced) e
-    (comes code s g.statements.items is (subst IsGuarded (sym e) good) c.thread_laws.ensures thread elements founds path cons)
+    (comes code s g.statements.items is (subst IsGuarded (sym e) good) c.thread_laws.ensures c.turns_law.ensures thread elements founds path cons)

@@ -1,4 +1,4 @@
-use Rattle.sharc_compile.proofs.{Imports.{◌≡◌, ◌∙◌, ap, subst, sym, ℕ, Bool, slice_get, Some, None, true, Instr, Start, flat_of, Program, source_at, Access, access_of, dropped}, Accessing.checked, Same.same}
+use Rattle.sharc_compile.proofs.{Imports.{◌≡◌, ◌∙◌, ap, subst, sym, ℕ, Bool, slice_get, Some, None, true, Instr, flat_of, Program, source_at, Access, access_of, dropped}, Accessing.checked, Same.same}
 use Rattle.sharc_guard.specs.Checked.{IsCheckedAt, IsNoTarget}
 use Rattle.sharc_compile.proofs.laws.checks_law.Goals as goal
 
@@ -12,8 +12,8 @@ Free d p = (pc : ℕ) (i : Instr) (a : Access) → slice_get p.statements pc ≡
 abbrev First : Program → Type 0
 First p = (i : Instr) (a : Access) → slice_get p.statements 0 ≡ Some i → access_of i ≡ Some a → ⊥
 
-first : (i : Instr) (a : Access) → Some (Start 0) ≡ Some i → access_of i ≡ Some a → ⊥
-first i a e is = let s : Start 0 ≡ i = cc in let z : None ≡ Some a = ap access_of s ∙ is in absurd (cc)
+first : (i : Instr) (a : Access) → Some (Instr.Start 0) ≡ Some i → access_of i ≡ Some a → ⊥
+first i a e is = let s : Instr.Start 0 ≡ i = cc in let z : None ≡ Some a = ap access_of s ∙ is in absurd (cc)
 
 pub returns : goal.returns
 returns c = λ flat code is.

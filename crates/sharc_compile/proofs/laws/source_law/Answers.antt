@@ -10,5 +10,5 @@ returns c = λ m flat code same ok framed is s thread elements founds path consi
     let paced = paced_in code s first founds in
     ⊎_elim
     (λ (h : IsBeginning at said paced). inl h)
-    (λ (h : FollowsFlat code is.g (flat_of flat) thread at said lowered paced). inr (follows c.paths_are_runs.ensures m (flat_of flat) same code is.g thread at said lowered paced h))
+    (λ (h : FollowsFlat code is.g (flat_of flat) thread at said lowered paced). inr (follows c.path_laws.ensures m (flat_of flat) same code is.g thread at said lowered paced h))
     (c.made_law.ensures flat code ok framed is s thread elements founds path consistent)

@@ -31,5 +31,5 @@ returns c = λ m p flat flattens fits code is s run checked consistent thread b 
     (λ (h : IsBeginning at said paced). absurd (not_silent m names code R thread at said events b may h.nothing))
     (λ (h : HasCome code s (program_of is.g) (elements (length founds)) thread at said lowered paced).
     registered m names code R thread at said events b may
-    (registered_there c.paths_are_runs.ensures c.counted_law.ensures m (flat_of flat) asks level locks d is.g code made is.generated (c.functions_are_named.ensures.named m flat flattens code is) s (elements (length founds)) thread at said lowered paced h))
+    (registered_there c.path_laws.ensures c.counted_law.ensures m (flat_of flat) asks level locks d is.g code made is.generated (c.functions_are_named.ensures.named m flat flattens code is) s (elements (length founds)) thread at said lowered paced h))
     (c.paths_law.ensures is.g code is.generated good s thread elements founds path (consistent thread)))

@@ -23,7 +23,7 @@ returns c = λ m p flat flattens fits code is s thread elements founds path cons
     ⊎_elim
     (λ (h : IsBeginning at said paced). inl h)
     (λ (h : HasCome code s (program_of is.g) (elements (length founds)) thread at said lowered paced).
-    inr (there c.paths_are_runs.ensures c.log_law.ensures m (flat_of flat) asks d q (c.counted_law.ensures d (flat_of flat) level locks) (length-map (flat_of flat).functions (entered_at (place d (flat_of flat).lines)))
+    inr (there c.path_laws.ensures c.log_law.ensures m (flat_of flat) asks d q (c.counted_law.ensures d (flat_of flat) level locks) (length-map (flat_of flat).functions (entered_at (place d (flat_of flat).lines)))
     is.g code made is.generated (c.functions_are_named.ensures.named m flat flattens code is) s (elements (length founds)) thread at said lowered paced
     (subst (λ p. HasCome code s p (elements (length founds)) thread at said lowered paced) made h)))
     (c.paths_law.ensures is.g code is.generated good s thread elements founds path consistent)

@@ -1,18 +1,11 @@
--- Flat code by what its events answer, and what it gives up on its way.
-use Rattle.sharc_wants_laws.proofs.Imports.{◌≡◌, ℕ, zero, suc, ℤ, pos, negsuc, ◌+◌, ◌-◌, ◌*◌, ◌≤◌, ◌⊎◌, inl, inr, Bool, true, false, not, List, [], ◌∷◌, ◌++◌, length, refl, sym, ap, ◌∙◌, subst, arith, Some, None, Option, Ok, Err, Result, nat_lt, cond, slice_get, append_assoc, append-nil, ⊎_elim, ◌==◌, map-append, false≢true, Act, CellAt, CellMode, SourceEvent, Trap, Taken, GivenUp, Emptied, Released, Replaced, is_zero, held_mutexes, holds_mutex, is_null, elements_of, number_of, answer_of, event_of, is_positive, answers_of, refers, computed, GlobalCells, Cell, Parameter, Register, Op, Spot, Flat, At, Caller, goes, asks, halts, goes_on, over_lines, stops, asserts, with_result, set_int, set_ref, take_kind_of, cell_mode_of, accessed, accesses, lock_is_null, indexed, takes_local, op_turn, end_turn, line_turn, turn, on_turn, exec, start, first_at, handed, with_event, without_base, put, at_after, asked, IsPath, PathsAreRuns}
-use Rattle.sharc_code.specs.Arithmetic.{negated, holds}
-use Rattle.sharc_flat.specs.{Machine.{int, gives_up, called, Turn, ref, next, cell_at, returned, begun, function_of}, Path.{after, may_go, asked_by}}
-
--- ---- events, and what is given up
--- no event is told, and nothing is taken back of what was given up
-abbrev pub IsStill : At → At → Type 0
-IsStill m m2 = (m2.events ≡ m.events) × (extra : List GivenUp) × (m2.given ≡ m.given ++ extra)
+-- What a turn of flat code leaves as it was, and a path by what its own events answer.
+use Rattle.sharc_flat.proofs.{Imports.{◌≡◌, ℕ, zero, suc, ℤ, pos, negsuc, ◌+◌, ◌-◌, ◌*◌, ◌<◌, ◌≤◌, ◌⊎◌, inl, inr, Bool, true, false, not, List, [], ◌∷◌, ◌++◌, length, refl, sym, ap, ◌∙◌, subst, arith, Some, None, Option, Ok, Err, Result, nat_lt, cond, slice_get, append_assoc, append-nil, cases_lt, ⊎_elim, ◌==◌, map-append, Act, CellAt, CellMode, SourceEvent, Trap, Taken, GivenUp, Emptied, Released, Replaced, is_zero, held_mutexes, holds_mutex, is_null, elements_of, number_of, answer_of, event_of, is_positive, spent, computed, negated, GlobalCells, Cell, Parameter, Register, Op, Spot, Flat, At, Caller, Came, Turn, goes, asks, halts, goes_on, over_lines, stops, asserts, with_result, set_int, set_ref, ref, take_kind_of, cell_at, cell_mode_of, accessed, accesses, lock_is_null, indexed, takes_local, op_turn, end_turn, line_turn, turn, on_turn, exec, start, first_at, begun, function_of, handed, with_event, without_base, put, after, may_go, at_after, asked, asked_by, IsPath}, PathRuns.runs}
+use Rattle.std.proofs.lemmas.Bool.{false≢true}
+use Rattle.sharc_meaning.specs.{References.refers, Runs.answers_of}
+use Rattle.sharc_code.specs.Arithmetic.{holds}
+use Rattle.sharc_flat.specs.{Machine.{int, gives_up, called, next, returned}, Quiet.{IsStill, AreFrom, IsQuiet, given_by, given_in, IsBeyond, PathLaws}}
 
 -- ---- what registers hold
--- each reference was there before, in one register or another
-abbrev pub AreFrom : At → At → Type 0
-AreFrom m m2 = (k n : ℕ) → refers n (m2.refs k) ≡ true → (j : ℕ) × (refers n (m.refs j) ≡ true)
-
 same : (m : At) → AreFrom m m
 same m k n is = (k, is)
 
@@ -34,13 +27,6 @@ moves_from : (refs : ℕ → ℤ) (r from k n : ℕ) → refers n (put (put refs
 moves_from refs r from k n is = filled (put refs from (pos 0)) refs r from k n (λ j there. emptied refs from j n there) is
 
 -- ---- one turn
--- The same by a turn before it is answered; what comes with the answer tells no other event; and a turn that asks for
--- the Freed of a reference gives up the cells of its object before.
-abbrev pub IsQuiet : At → Turn → Type 0
-IsQuiet m (goes m2) = IsStill m m2 × AreFrom m m2
-IsQuiet m (asks m2 site act held go) = IsStill m m2 × (m2.refs ≡ m.refs) × ((v : ℤ) (n : At) → (go v n).events ≡ n.events) × ((v : ℤ) → act ≡ Act.Freed v → m2.given ≡ m.given ++ Emptied (number_of v) ∷ [])
-IsQuiet m (halts o) = Unit {0}
-
 abbrev is_freed : Act → Bool
 is_freed (Act.Freed v) = true
 is_freed _ = false
@@ -52,7 +38,7 @@ freed_value : (x v : ℤ) → Act.Freed x ≡ Act.Freed v → x ≡ v
 freed_value x v h = cc
 
 -- as much is given up
-pub same_given : (m : At) → m.given ≡ m.given ++ []
+same_given : (m : At) → m.given ≡ m.given ++ []
 same_given m = sym (append-nil m.given)
 
 cond_quiet : (b : Bool) (x y : Turn) (m : At) → IsQuiet m x → IsQuiet m y → IsQuiet m (cond b x y)
@@ -89,11 +75,11 @@ takes_quiet : (r x : ℕ) (spot : Spot) (m : At) (b : Bool) → IsQuiet m (takes
 takes_quiet r x spot m true = ((refl, [], same_given m), λ k n is. moves_from m.refs (m.ref_base + r) (m.ref_base + x) k n is)
 takes_quiet r x spot m false = ((refl, [], same_given m), refl, λ v n. refl, λ v is. not_freed is refl)
 
-pub base_events : (cell : Cell) (n : At) → (without_base cell n).events ≡ n.events
+base_events : (cell : Cell) (n : At) → (without_base cell n).events ≡ n.events
 base_events (Cell.Object r k) n = refl
 base_events _ n = refl
 
-pub handed_events : (from : Register) (n : At) → (handed from n).events ≡ n.events
+handed_events : (from : Register) (n : At) → (handed from n).events ≡ n.events
 handed_events (Register.Int i) n = refl
 handed_events (Register.Reference r) n = refl
 
@@ -138,7 +124,7 @@ op_quiet flat (Op.Join i spot) m = ((refl, [], same_given m), refl, λ v n. refl
 op_quiet flat (Op.Print i spot) m = ((refl, [], same_given m), refl, λ v n. refl, λ v is. not_freed is refl)
 op_quiet flat _ m = ((refl, [], same_given m), same m)
 
-pub line_quiet : (flat : Flat) (o : Option Op) (m : At) → IsQuiet m (line_turn flat o m)
+line_quiet : (flat : Flat) (o : Option Op) (m : At) → IsQuiet m (line_turn flat o m)
 line_quiet flat (Some o) m = op_quiet flat o m
 line_quiet flat None m = by_place (m.pc - length flat.lines)
   where
@@ -146,42 +132,37 @@ line_quiet flat None m = by_place (m.pc - length flat.lines)
     by_place (suc (suc n)) = tt
     by_place _ = ((refl, [], same_given m), refl, λ v n. refl, λ v is. not_freed is refl)
 
--- so what is not answered leaves the events as they are
-pub still : (flat : Flat) (k : ℕ) (m : At) → (exec flat k [] m).at.events ≡ m.events
-still flat zero m = refl
+-- so what is not answered leaves the events as they are, and gives up more at most
+still : (flat : Flat) (k : ℕ) (m : At) → IsStill m (exec flat k [] m).at
+still flat zero m = (refl, [], same_given m)
 still flat (suc k) m = by_turn (turn flat m) (line_quiet flat (slice_get flat.lines m.pc) m) (still flat k)
   where
-    by_turn : (t : Turn) → IsQuiet m t → ((m2 : At) → (exec flat k [] m2).at.events ≡ m2.events) → (on_turn t [] m (exec flat k)).at.events ≡ m.events
-    by_turn (goes m2) q rec = rec m2 ∙ q.0.0
-    by_turn (asks m2 site act held go) q rec = q.0.0
-    by_turn (halts o) q rec = refl
+    by_turn : (t : Turn) → IsQuiet m t → ((m2 : At) → IsStill m2 (exec flat k [] m2).at) → IsStill m (on_turn t [] m (exec flat k)).at
+    by_turn (goes m2) q rec = let r = rec m2 in (r.0 ∙ q.0.0, q.0.1 ++ r.1, r.2 ∙ ap (λ xs. xs ++ r.1) q.0.2 ∙ append_assoc m.given q.0.1 r.1)
+    by_turn (asks m2 site act held go) q rec = q.0
+    by_turn (halts o) q rec = (refl, [], same_given m)
 
--- what a turn answers, by what it was told
-abbrev given_by : Turn → ℤ → ℤ
-given_by (asks m2 site act held go) x = answer_of (λ token. held) act x
-given_by _ x = x
-
-abbrev pub given_in : Flat → At → List ℤ → List ℤ
-given_in flat m [] = []
-given_in flat m (x ∷ earlier) = given_by (turn flat (at_after flat m earlier)) x ∷ given_in flat m earlier
-
-pub again : (held : ℤ) (act : Act) (x : ℤ) → answer_of (λ token. held) act (answer_of (λ token. held) act x) ≡ answer_of (λ token. held) act x
+again : (held : ℤ) (act : Act) (x : ℤ) → answer_of (λ token. held) act (answer_of (λ token. held) act x) ≡ answer_of (λ token. held) act x
 again held (Act.Take (Taken.Cell c mode) kind) x = refl
 again held _ x = refl
 
-pub same_after : (m : At) (t : Turn) (x : ℤ) → after m t (given_by t x) ≡ after m t x
+same_after : (m : At) (t : Turn) (x : ℤ) → after m t (given_by t x) ≡ after m t x
 same_after m (asks m2 site act held go) x = ap (λ a. go a (with_event (event_of site act a) m2)) (again held act x)
 same_after m _ x = refl
 
-pub given_same : (flat : Flat) (m : At) (answers : List ℤ) → at_after flat m (given_in flat m answers) ≡ at_after flat m answers
+given_same : (flat : Flat) (m : At) (answers : List ℤ) → at_after flat m (given_in flat m answers) ≡ at_after flat m answers
 given_same flat m [] = refl
 given_same flat m (x ∷ earlier) =
     let t = turn flat (at_after flat m earlier) in
     ap (λ n. after n (turn flat n) (given_by t x)) (given_same flat m earlier) ∙ same_after (at_after flat m earlier) t x
 
-pub given_path : (flat : Flat) (m : At) (answers : List ℤ) → IsPath flat m answers → IsPath flat m (given_in flat m answers)
+given_path : (flat : Flat) (m : At) (answers : List ℤ) → IsPath flat m answers → IsPath flat m (given_in flat m answers)
 given_path flat m [] path = tt
 given_path flat m (x ∷ earlier) path = (given_path flat m earlier path.0, subst (λ n. may_go (turn flat n) ≡ true) (sym (given_same flat m earlier)) path.1)
+
+given_count : (flat : Flat) (m : At) (answers : List ℤ) → length (given_in flat m answers) ≡ length answers
+given_count flat m [] = refl
+given_count flat m (x ∷ earlier) = ap suc (given_count flat m earlier)
 
 -- each turn that asks tells one event, with this answer
 told_one : (t : Turn) (now : At) (x : ℤ) → IsQuiet now t → answers_of (after now t x).events ≡ answers_of now.events ++ asked_by t (given_by t x)
@@ -201,31 +182,70 @@ told_all flat m (x ∷ earlier) =
     ∙ append_assoc (answers_of m.events) (asked flat m (given_in flat m earlier)) (asked_by t (given_by t x))
     ∙ ap (λ n. answers_of m.events ++ (asked flat m (given_in flat m earlier) ++ asked_by (turn flat n) (given_by t x))) (sym (given_same flat m earlier))
 
-pub no_events : (flat : Flat) (f : ℕ) (v : ℤ) → (start flat f v).events ≡ []
+no_events : (flat : Flat) (f : ℕ) (v : ℤ) → (start flat f v).events ≡ []
 no_events flat f v = by (function_of flat f).parameter
   where
     by : (q : Parameter) → (begun q v (first_at flat f)).events ≡ []
     by Parameter.Int = refl
     by _ = refl
 
--- ---- a path and its beginnings
-pub are_own : (flat : Flat) (f : ℕ) (v : ℤ) (answers : List ℤ) → asked flat (start flat f v) (given_in flat (start flat f v) answers) ≡ answers_of (at_after flat (start flat f v) answers).events
+are_own : (flat : Flat) (f : ℕ) (v : ℤ) (answers : List ℤ) → asked flat (start flat f v) (given_in flat (start flat f v) answers) ≡ answers_of (at_after flat (start flat f v) answers).events
 are_own flat f v answers =
     let st = start flat f v in
     sym (told_all flat st answers ∙ ap (λ es. answers_of es ++ asked flat st (given_in flat st answers)) (no_events flat f v))
 
-module _ (runs : PathsAreRuns) (flat : Flat) (st : At) (answers : List ℤ) (path : IsPath flat st answers) where
-  -- past the path nothing is answered
-  goes_beyond : (k : ℕ) → exec flat (length answers + k) (asked flat st answers) st ≡ exec flat k [] (at_after flat st answers)
-  goes_beyond k = ap (λ xs. exec flat (length answers + k) xs st) (sym (append-nil (asked flat st answers))) ∙ runs flat st answers path k []
+-- ---- a path and its beginnings
+record Begins (flat : Flat) (m : At) (answers : List ℤ) (n : ℕ) : Type 0 where
+  earlier : List ℤ
+  path : IsPath flat m earlier
+  count : length earlier ≡ n
+  rest : List ℤ
+  asked_is : asked flat m answers ≡ asked flat m earlier ++ rest
 
-  -- so many turns lead one turn beyond the path at least
-  pub record IsBeyond (later : ℕ) : Type 0 where
-    pub more : ℕ
-    pub is : exec flat later (asked flat st answers) st ≡ exec flat (suc more) [] (at_after flat st answers)
+beginning : (flat : Flat) (m : At) (answers : List ℤ) → IsPath flat m answers → (n : ℕ) → n ≤ length answers → Begins flat m answers n
+beginning flat m [] path n le = record { earlier = []; path = tt; count = omega arith; rest = []; asked_is = refl }
+beginning flat m (x ∷ answers) path n le = by (cases_lt n (suc (length answers))) (beginning flat m answers path.0 n)
+  where
+    by : (n < suc (length answers)) ⊎ (suc (length answers) ≤ n) → (n ≤ length answers → Begins flat m answers n) → Begins flat m (x ∷ answers) n
+    by (inl lt) rec =
+        let h = rec (omega arith) in
+        let last = asked_by (turn flat (at_after flat m answers)) x in
+        record {
+          earlier = h.earlier;
+          path = h.path;
+          count = h.count;
+          rest = h.rest ++ last;
+          asked_is = ap (λ xs. xs ++ last) h.asked_is ∙ append_assoc (asked flat m h.earlier) h.rest last;
+        }
+    by (inr ge) rec = record { earlier = x ∷ answers; path = path; count = omega arith; rest = []; asked_is = sym (append-nil (asked flat m (x ∷ answers))) }
 
-  pub beyond : (later : ℕ) → (length answers + 1 ≤ later) ⊎ (exec flat (length answers + 1) (asked flat st answers) st ≡ exec flat later (asked flat st answers) st) → IsBeyond later
-  beyond later (inl le) =
-      let e : later ≡ length answers + suc (later - (length answers + 1)) = omega arith in
-      record { more = later - (length answers + 1); is = ap (λ n. exec flat n (asked flat st answers) st) e ∙ goes_beyond (suc (later - (length answers + 1))) }
-  beyond later (inr same) = record { more = 0; is = sym same ∙ goes_beyond 1 }
+-- past the path nothing is answered
+goes_beyond : (flat : Flat) (st : At) (answers : List ℤ) → IsPath flat st answers → (k : ℕ) → exec flat (length answers + k) (asked flat st answers) st ≡ exec flat k [] (at_after flat st answers)
+goes_beyond flat st answers path k = ap (λ xs. exec flat (length answers + k) xs st) (sym (append-nil (asked flat st answers))) ∙ runs flat st answers path k []
+
+-- within it the turns are spent
+within : (flat : Flat) (st : At) (answers : List ℤ) → IsPath flat st answers → (n : ℕ) → n ≤ length answers → (exec flat n (asked flat st answers) st).outcome ≡ spent
+within flat st answers path n le =
+    let h = beginning flat st answers path n le in
+    let e : n ≡ length h.earlier + 0 = let c = h.count in omega arith in
+    ap (λ n. (exec flat n (asked flat st answers) st).outcome) e ∙ ap (λ xs. (exec flat (length h.earlier + 0) xs st).outcome) h.asked_is ∙ ap (λ (c : Came). c.outcome) (runs flat st h.earlier h.path 0 h.rest)
+
+beyond : (flat : Flat) (st : At) (answers : List ℤ) → IsPath flat st answers → (later : ℕ)
+    → (length answers + 1 ≤ later) ⊎ (exec flat (length answers + 1) (asked flat st answers) st ≡ exec flat later (asked flat st answers) st) → IsBeyond flat st answers later
+beyond flat st answers path later (inl le) =
+    let e : later ≡ length answers + suc (later - (length answers + 1)) = omega arith in
+    record { more = later - (length answers + 1); is = ap (λ n. exec flat n (asked flat st answers) st) e ∙ goes_beyond flat st answers path (suc (later - (length answers + 1))) }
+beyond flat st answers path later (inr same) = record { more = 0; is = sym same ∙ goes_beyond flat st answers path 1 }
+
+pub laws : PathLaws
+laws = record {
+  runs = runs;
+  quiet = λ flat m. line_quiet flat (slice_get flat.lines m.pc) m;
+  still = still;
+  same = given_same;
+  path = given_path;
+  count = given_count;
+  own = are_own;
+  within = within;
+  beyond = beyond;
+}
