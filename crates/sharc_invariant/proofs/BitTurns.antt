@@ -1,5 +1,5 @@
 -- The bits of shadow words behind each turn, and at each place of a run.
-use Rattle.sharc_invariant.proofs.{Imports.{◌≡◌, ℕ, suc, ◌+◌, ◌*◌, ◌<◌, ◌⊎◌, ◌||◌, Bool, true, false, cond, List, [], ◌∷◌, refl, sym, ap, ◌∙◌, subst, inl, inr, ⊎_elim, arith, cases_eq, cases_Bool, ltb-true, lt-ltb, true_from_ne_false, length, take, slice_index, slice_set, nat_lt, nat_eq, is_some, bit_or, ◌==◌, if◌then◌else◌, THREADS, Load, Swap, Or, Cas, WordStep, MayFollow, word_after, Kind, Read, Write, note_of, site_at, epoch_of, is_of, is_written, stands, WithdrawsWord, AddsAccess, bits_of, cleared_of, withdrawn_of, conflicts_in, noted, ShadowLaws, Code, Layout, Instr, Register, Shape, Stage, Rests, Looks, Clears, Makes, FreeLooks, FreeClears, Uncounts, Names, Hands, Begins, Withdraws, WithdrawsFrom, Leaves, StateOf as PlaceState, Ended, Stop, Conflict, Fits, granules, granule_at, granule_of, first_shadow, first_cell, shadow_word, state_word, Machine, Own, StepTurn, Local, Asks, step_of, act, instr_at, ref, at_stage, ends, stopped, with_own, with_note, wrote, checked, check, clear, looks, free, free_looks, layout_at, data_granule, data_granules, rests, exit, withdraws, withdrew, row_of, without_own, TurnsComeOut, may_go, turn, asked_by, after as after_step, Turn, Global, put, at, MayTurn, IsRun, Answered, after_turn, result_of, one_thread, bounds, put_same, put_other, put_all, Touch, Untouched, CheckOf, ClearOf, WithdrawOf, Marks, no_marks, with_check, without_thread, cleared_by, freed_by, withdrawn_by, touch_of, marks_by, marks_now, marks_after, BitsStand, AllBitsStand, Passed, Targets, Labels, IsWellTyped, World, Heap, shadow_at, is_ended, is_withdrawing, has_withdrawn, note_number, noted_by, first_place, made_turn, State, IsSmall, StageStands, OnNew, OnSpawn, OnExit, RunsFromTheBeginning, RunsBits, ne_eq, eq_refl}, TurnAt.{turn_at, turn_stands}, Stores.index_put, Turns.{local_turn, asks_turn, some_step}, Checks.{noted_numbers, same_kind, other_put}, Withdrawn.{is_row, one_more, row_low, first_row, noted_withdraws, wrote_now}, Opened.shadow_zero, Marked.{MarkedAt, at_same, at_clear, at_read, at_write, at_withdraw}, Touched.{IsFit, fit_calm, IsPlain, KeepsNotes, LeavesWords, leaves, keeps_notes}}
+use Rattle.sharc_invariant.proofs.{Imports.{◌≡◌, ℕ, suc, ◌+◌, ◌*◌, ◌<◌, ◌⊎◌, ◌||◌, Bool, true, false, cond, List, [], ◌∷◌, refl, sym, ap, ◌∙◌, subst, inl, inr, ⊎_elim, arith, cases_eq, cases_Bool, ltb-true, lt-ltb, true_from_ne_false, length, take, slice_index, slice_set, nat_lt, nat_eq, is_some, bit_or, ◌==◌, if◌then◌else◌, THREADS, Load, Swap, Or, Cas, WordStep, MayFollow, word_after, Kind, Read, Write, note_of, site_at, epoch_of, is_of, is_written, stands, WithdrawsWord, AddsAccess, bits_of, cleared_of, withdrawn_of, conflicts_in, noted, ShadowLaws, Code, Layout, Instr, Register, Shape, Stage, Rests, Looks, Clears, Makes, FreeLooks, FreeClears, Uncounts, Names, Hands, Begins, Withdraws, WithdrawsFrom, Leaves, StateOf as PlaceState, Ended, Stop, Conflict, Fits, granules, granule_at, granule_of, first_shadow, first_cell, shadow_word, state_word, Machine, Own, StepTurn, Local, Asks, step_of, act, instr_at, ref, at_stage, ends, stopped, with_own, with_note, wrote, checked, check, clear, looks, free, free_looks, layout_at, data_granule, data_granules, rests, exit, withdraws, withdrew, row_of, without_own, TurnsComeOut, may_go, turn, asked_by, after as after_step, Turn, Global, put, at, MayTurn, IsRun, Answered, after_turn, result_of, one_thread, bounds, put_same, put_other, put_all, Touch, Untouched, CheckOf, ClearOf, WithdrawOf, Marks, no_marks, with_check, without_thread, cleared_by, freed_by, withdrawn_by, touch_of, marks_by, marks_now, marks_after, BitsStand, AllBitsStand, Passed, Targets, Labels, IsWellTyped, World, Heap, shadow_at, is_ended, is_withdrawing, has_withdrawn, note_number, noted_by, first_place, made_turn, State, IsSmall, StageStands, OnNew, OnSpawn, OnExit, RunsFromTheBeginning, RunsBits, ne_eq, eq_refl, or_false}, TurnAt.{turn_at, turn_stands}, Stores.index_put, Turns.{local_turn, asks_turn, some_step}, Checks.{noted_numbers, same_kind, other_put}, Withdrawn.{is_row, one_more, row_low, first_row, noted_withdraws, wrote_now}, Opened.shadow_zero, Marked.{MarkedAt, at_same, at_clear, at_read, at_write, at_withdraw}, Touched.{IsFit, fit_calm, IsPlain, KeepsNotes, LeavesWords, leaves, keeps_notes}}
 use Rattle.sharc_code.specs.Machine.{place}
 
 -- ---- numbers
@@ -319,10 +319,6 @@ module _ (x : Targets) (code : Code) (s : Shape) (ls : Labels) (laws : ShadowLaw
       let done' : after ≡ made_turn g t (slice_set g.words k old) m' = done.0 ∙ ap (λ b. made_turn g t (slice_set g.words k (cond b v old)) (cond b (withdraws m (row + 1)) (at_stage m (WithdrawsFrom row old)))) no' in
       subst Q (sym no') (left (slice_set g.words k old) m' done' (λ p lt. same_word k old (shadow_at s p) done.1 refl) (λ kind p. sym (noted_at_stage (WithdrawsFrom row seen) e kind p))))
       (cases_eq old seen))
-    where
-      or_false : (b : Bool) → (b || false) ≡ b
-      or_false true = refl
-      or_false false = refl
 
   abbrev StageHere : Stage → Type 0
   StageHere y = StageStands code s st.elements world st.heap g.words tr.thread (g.threads tr.thread) Instr.Exit y

@@ -1,5 +1,5 @@
 -- The checks of reads and writes: one that passes, and one that is refused.
-use Rattle.sharc_invariant.proofs.Imports.{◌≡◌, ℕ, zero, suc, ◌<◌, ◌≢◌, ◌||◌, ◌&&◌, not, Bool, true, false, cond, List, [], ◌∷◌, Option, Some, None, refl, sym, ap, ◌∙◌, subst, inl, inr, ⊎_elim, arith, eqb-true, cases_eq, nat_tests, get_or-set_same, get_or-set_other, length-set, Contains-append_left, Contains-append_right, Contains-get_or, all_pairs_push, length, slice_index_or, slice_set, nat_eq, is_some, bit_or, ◌++◌, Contains, if◌then◌else◌, THREADS, Kind, Read, Write, Note, GranuleNotes, blank, has_note, of_kind, Accesses, ListsNoted, is_noted, note_of, site_at, epoch_of, is_written, stands, is_write, is_of, HasOther, bits_of, conflicts_in, lowest_other, noted, ShadowLaws, Own, Machine, wrote, with_note as with_note_of, put, put_same, put_other, put_all, GranuleState, Alone, Clean, marked, passed, Reads, note_number, eq_refl}
+use Rattle.sharc_invariant.proofs.Imports.{◌≡◌, ℕ, zero, suc, ◌<◌, ◌≢◌, ◌||◌, ◌&&◌, not, Bool, true, false, cond, List, [], ◌∷◌, Option, Some, None, refl, sym, ap, ◌∙◌, subst, inl, inr, ⊎_elim, arith, eqb-true, cases_eq, get_or-set_same, get_or-set_other, length-set, Contains-append_left, Contains-append_right, Contains-get_or, all_pairs_push, length, slice_index_or, slice_set, nat_eq, is_some, bit_or, ◌++◌, Contains, if◌then◌else◌, THREADS, Kind, Read, Write, Note, GranuleNotes, blank, has_note, of_kind, Accesses, ListsNoted, is_noted, note_of, site_at, epoch_of, is_written, stands, is_write, is_of, HasOther, bits_of, conflicts_in, lowest_other, noted, ShadowLaws, Own, Machine, wrote, with_note as with_note_of, put, put_same, put_other, put_all, GranuleState, Alone, Clean, marked, passed, Reads, note_number, eq_refl, ne_eq}
 use Rattle.sharc_heap.specs.Notes.{with_note}
 
 -- ---- one granule
@@ -15,13 +15,10 @@ marked_reads laws v rn wn p x t kind lt r =
       ] ∙ sym a.written;
       has = λ u. put_all (λ u (b : Bool). b ≡ stands (bit_or v (bits_of t kind)) u) x.has t true
           (sym (a.threads t ∙ ap (λ b. stands v t || b) (eq_refl t) ∙ (elim (stands v t) as (λ b. (b || true) ≡ true) [ true ↦ refl | false ↦ refl ])))
-          (λ u ne. r.has u ∙ sym (a.threads u ∙ ap (λ b. stands v u || b) (ne_bool u t ne) ∙ (elim (stands v u) as (λ b. (b || false) ≡ b) [ true ↦ refl | false ↦ refl ]))) u;
+          (λ u ne. r.has u ∙ sym (a.threads u ∙ ap (λ b. stands v u || b) (ne_eq u t ne) ∙ (elim (stands v u) as (λ b. (b || false) ≡ b) [ true ↦ refl | false ↦ refl ]))) u;
       read_note = r.read_note;
       write_note = r.write_note;
     }
-  where
-    ne_bool : (u t : ℕ) → (u ≡ t → ⊥) → nat_eq u t ≡ false
-    ne_bool u t ne = grind (arith, nat_tests)
 
 -- and behind one that passes, with the note
 pub passed_reads : (laws : ShadowLaws) (v : ℕ) (rn wn rn' wn' : ℕ → ℕ → ℕ) (p : ℕ) (x : GranuleState) (t : ℕ) (kind : Kind) → t < THREADS → Reads v rn wn p x

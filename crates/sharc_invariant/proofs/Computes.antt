@@ -26,11 +26,8 @@ shift_gives w a (negsuc n) = tt
 
 truth_gives : (w : Width) (b : Bool) → holds w (truth b) ≡ true
 truth_gives Char true = refl
-truth_gives Char false = refl
-truth_gives Int true = refl
-truth_gives Int false = refl
-truth_gives Long true = refl
-truth_gives Long false = refl
+truth_gives _ true = refl
+truth_gives _ _ = refl
 
 rem_gives : (w : Width) (a b : ℤ) → holds w a ≡ true → Gives w (divided w a b (int_rem a b))
 rem_gives w a b h = elim (is_zero b) as (λ z. Gives w (cond z (Err Trap.DivisionByZero) (cond (holds w (int_div a b)) (Ok (int_rem a b)) (Err Trap.OutOfRange)))) [

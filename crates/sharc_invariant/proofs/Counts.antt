@@ -1,5 +1,5 @@
 -- Raise and Lower of a register, and what moves references between registers.
-use Rattle.sharc_invariant.proofs.{Imports.{◌≡◌, ℕ, ℤ, zero, suc, ◌+◌, ◌-◌, ◌%◌, ◌^◌, ◌<◌, ◌≤◌, ◌≢◌, true, refl, sym, ap, ◌∙◌, subst, inl, inr, ⊎_elim, arith, List, [], ◌∷◌, Bool, false, cond, ◌||◌, cases_eq, nat_tests, fun_ext, length, slice_index, slice_set, nat_lt, ◌==◌, Add, Sub, word_after, raise_of, lower_of, Code, Instr, Shape, granules, granule_at, count_word, Machine, Local, Asks, instr_at, goes, set_ref, ref, raise, lower, turn, Turn, Global, put, MayTurn, one_thread, bounds, put_same, put_other, Through, nothing, Targets, type_of, Lock, SomeNames, Empty, Refers, Unknown, Closed, Label, Labels, Leads, fill, empty, Entry, EntryMentions, IsFree, forgets, forgotten, some_names, IsWellTyped, IsRef, TypedReference, RegisterOf, World, Shut, Sole, In, Slot, in_ref, place, null, none, grow, drop, set_win, set_slot, FitsType as Fits, WorldInvariant, lang_of, conc_of, Shows, count_at, store, set_reg, has_returned, GranuleState, Passed, Silent, Effect, Silently, made_turn, State, EntryStands, TopStands, refs_at, types_at, IsSmall, size_of_run, changes_objects, eq_refl}, TurnAt.turn_at, Effects.{set_slot_ok, grow_ok, drop_ok, set_win_ok, count_pos, place_other}, Frames.{filled, FilledStands, fill_stands, empty_stands}, Small.total_low, Stores.{index_put, count_store, stored_words, stored_within}, Seen.{count_stored, reg_stored}, Turns.{local_turn, asks_turn, room_of}, Own.{is_single, runs, rests, top, fine}, Plain.{register_plain, is_shut, same_words}, Filled.{SetsRef, filled_state, inside_world, free_shut}}
+use Rattle.sharc_invariant.proofs.{Imports.{◌≡◌, ℕ, ℤ, zero, suc, ◌+◌, ◌-◌, ◌%◌, ◌^◌, ◌<◌, ◌≤◌, ◌≢◌, true, refl, sym, ap, ◌∙◌, subst, inl, inr, ⊎_elim, arith, List, [], ◌∷◌, false, cond, ◌||◌, cases_eq, nat_tests, fun_ext, length, slice_index, slice_set, nat_lt, ◌==◌, Add, Sub, word_after, raise_of, lower_of, Code, Instr, Shape, granules, granule_at, count_word, Machine, Local, Asks, instr_at, goes, set_ref, ref, raise, lower, turn, Turn, Global, put, MayTurn, one_thread, bounds, put_same, put_other, Through, nothing, Targets, type_of, Lock, SomeNames, Empty, Refers, Unknown, Closed, Label, Labels, Leads, fill, empty, Entry, EntryMentions, IsFree, forgets, forgotten, some_names, IsWellTyped, IsRef, TypedReference, RegisterOf, World, Shut, Sole, In, Slot, in_ref, place, null, none, grow, drop, set_win, set_slot, FitsType as Fits, WorldInvariant, lang_of, conc_of, Shows, count_at, store, set_reg, has_returned, GranuleState, Passed, Silent, Effect, Silently, made_turn, State, EntryStands, TopStands, refs_at, types_at, IsSmall, size_of_run, changes_objects, eq_refl, or_second}, TurnAt.turn_at, Effects.{set_slot_ok, grow_ok, drop_ok, set_win_ok, count_pos, place_other}, Frames.{filled, FilledStands, fill_stands, empty_stands}, Small.total_low, Stores.{index_put, count_store, stored_words, stored_within}, Seen.{count_stored, reg_stored}, Turns.{local_turn, asks_turn, room_of}, Own.{is_single, runs, rests, top, fine}, Plain.{register_plain, is_shut, same_words}, Filled.{SetsRef, filled_state, inside_world, free_shut}}
 use Rattle.sharc_invariant.specs.{Types.Names}
 
 pub raise_zero : (s : Shape) (n : ℕ) (m : Machine) → n ≡ 0 → raise s n m ≡ Local m
@@ -271,11 +271,7 @@ module _ (x : Targets) (code : Code) (s : Shape) (ls : Labels) (wt : IsWellTyped
 
       some_named : (r : ℕ) (locks : List Lock) → SomeNames r locks → some_names r locks ≡ true
       some_named r [] h = absurd h
-      some_named r (lock ∷ locks) h = ⊎_elim (λ (k : Names r lock). ap (λ b. b || some_names r locks) (names_is r lock k)) (λ (k : SomeNames r locks). either (Rattle.sharc_invariant.specs.Labels.names r lock) (some_names r locks) (some_named r locks k)) h
-        where
-          either : (a b : Bool) → b ≡ true → (a || b) ≡ true
-          either true b e = refl
-          either false b e = e
+      some_named r (lock ∷ locks) h = ⊎_elim (λ (k : Names r lock). ap (λ b. b || some_names r locks) (names_is r lock k)) (λ (k : SomeNames r locks). or_second (Rattle.sharc_invariant.specs.Labels.names r lock) (some_names r locks) (some_named r locks k)) h
 
       none_named : (r : ℕ) (e : Entry) → EntryMentions (forgotten r e) r → ⊥
       none_named r (Refers s) = elim (some_names r s.locks) as (λ b. some_names r s.locks ≡ b → EntryMentions (cond b Unknown (Refers s)) r → ⊥) [

@@ -302,48 +302,37 @@ module _ (z : Size) (l : TypeRules) (w : World) (inv : WorldInvariant z l w) whe
       (λ r e ne one'. (place_other w.slots (In a) (In (RegisterOf u r)) h (λ q. free u r (let P : Window → Type 0 = λ x. Uses x (By r) in subst P (sym e) refl) (sym (cc))), sole u r e ne one'))
       (inv.wins u)
 
-  pub set_slot_ok : (a : Holder) (ty : ObjectType) → Inside z (In a) → in_ref w a ≡ 0 → Free w a → WorldInvariant z l (set_slot w a (null ty))
-  set_slot_ok a ty i e free = record {
+  own_ok : (a : Holder) (h : TypedReference) (f : ℕ → ℕ) → (h.reference ≢ 0 → Inside z (In a)) → Fits l w.obj (thread_of a) h → Free w a
+      → ((o : ℕ) → o ≢ 0 → (w.obj o).live ≡ true → (w.obj o).global ≡ false → f o ≡ total z (place w.slots (In a) h) o)
+      → ((u r : ℕ) → w.win u ≡ Sole r → in_ref w (RegisterOf u r) ≢ 0 → w.count (in_ref w (RegisterOf u r)) ≡ 1 → f (in_ref w (RegisterOf u r)) ≡ 1) → WorldInvariant z l (record w { slots = place w.slots (In a) h; count = f })
+  own_ok a h f i fh free counts sole = record {
     words = record {
-      counts = λ o nz live made. let x = total_place z w.slots (null ty) o (In a) i in let c = inv.words.counts o nz live made in let y : one (in_ref w a) o ≡ one 0 o = ap (λ n. one n o) e in omega arith;
-      inside = place_all (λ s (h : TypedReference). h.reference ≢ 0 → Inside z s) w.slots (In a) (null ty) (λ _. i) (λ s _. inv.words.inside s);
-      fits = place_all (λ s h. Fits l w.obj (who w.obj s) h) w.slots (In a) (null ty) (λ ne. absurd (ne refl)) (λ s _. inv.words.fits s);
-      cells = inv.words.cells;
-      dead = inv.words.dead;
-      kinds = inv.words.kinds;
-    };
-    bits = inv.bits;
-    wins = own_wins a (null ty) w.count free (λ u r _ _ o. o);
-  }
-
-  -- one more reference to what slot s refers to
-  pub grow_ok : (a : Holder) (h : TypedReference) (s : Slot) → Inside z (In a) → in_ref w a ≡ 0 → h.reference ≢ 0 → Fits l w.obj (thread_of a) h → (w.slots s).reference ≡ h.reference → ((u r : ℕ) → w.win u ≡ Sole r → s ≡ In (RegisterOf u r) → ⊥) → Free w a → WorldInvariant z l (grow w a h)
-  grow_ok a h s i e ne fh es apart free = record {
-    words = record {
-      counts = λ o nz live made. let x = total_place z w.slots h o (In a) i in let c = inv.words.counts o nz live made in let b = up w.count h.reference o in let y : one (in_ref w a) o ≡ 0 = one_other (in_ref w a) o (λ q. nz (sym q ∙ e)) in omega arith;
-      inside = place_all (λ s (h : TypedReference). h.reference ≢ 0 → Inside z s) w.slots (In a) h (λ _. i) (λ s _. inv.words.inside s);
+      counts = counts;
+      inside = place_all (λ s (h : TypedReference). h.reference ≢ 0 → Inside z s) w.slots (In a) h i (λ s _. inv.words.inside s);
       fits = place_all (λ s h. Fits l w.obj (who w.obj s) h) w.slots (In a) h fh (λ s _. inv.words.fits s);
       cells = inv.words.cells;
       dead = inv.words.dead;
       kinds = inv.words.kinds;
     };
     bits = inv.bits;
-    wins = own_wins a h (grow w a h).count free (λ u r e nr one'. put_other w.count h.reference (in_ref w (RegisterOf u r)) (w.count h.reference + 1) (λ q. apart u r e (others (In (RegisterOf u r)) s nr one' (es ∙ sym q))) ∙ one');
+    wins = own_wins a h f free sole;
   }
 
+  pub set_slot_ok : (a : Holder) (ty : ObjectType) → Inside z (In a) → in_ref w a ≡ 0 → Free w a → WorldInvariant z l (set_slot w a (null ty))
+  set_slot_ok a ty i e free = own_ok a (null ty) w.count (λ _. i) (λ ne. absurd (ne refl)) free
+      (λ o nz live made. let x = total_place z w.slots (null ty) o (In a) i in let c = inv.words.counts o nz live made in let y : one (in_ref w a) o ≡ one 0 o = ap (λ n. one n o) e in omega arith)
+      (λ u r _ _ o. o)
+
+  -- one more reference to what slot s refers to
+  pub grow_ok : (a : Holder) (h : TypedReference) (s : Slot) → Inside z (In a) → in_ref w a ≡ 0 → h.reference ≢ 0 → Fits l w.obj (thread_of a) h → (w.slots s).reference ≡ h.reference → ((u r : ℕ) → w.win u ≡ Sole r → s ≡ In (RegisterOf u r) → ⊥) → Free w a → WorldInvariant z l (grow w a h)
+  grow_ok a h s i e ne fh es apart free = own_ok a h (grow w a h).count (λ _. i) fh free
+      (λ o nz live made. let x = total_place z w.slots h o (In a) i in let c = inv.words.counts o nz live made in let b = up w.count h.reference o in let y : one (in_ref w a) o ≡ 0 = one_other (in_ref w a) o (λ q. nz (sym q ∙ e)) in omega arith)
+      (λ u r e nr one'. put_other w.count h.reference (in_ref w (RegisterOf u r)) (w.count h.reference + 1) (λ q. apart u r e (others (In (RegisterOf u r)) s nr one' (es ∙ sym q))) ∙ one')
+
   pub drop_ok : (a : Holder) → in_ref w a ≢ 0 → Free w a → WorldInvariant z l (drop w a)
-  drop_ok a ne free = record {
-    words = record {
-      counts = λ o nz live made. let x = total_place z w.slots none o (In a) (inv.words.inside (In a) ne) in let c = inv.words.counts o nz live made in let b = down w.count (in_ref w a) o (count_pos (In a) ne) in let y : one 0 o ≡ 0 = one_other 0 o (λ q. nz (sym q)) in omega arith;
-      inside = place_all (λ s (h : TypedReference). h.reference ≢ 0 → Inside z s) w.slots (In a) none (λ n. absurd (n refl)) (λ s _. inv.words.inside s);
-      fits = place_all (λ s h. Fits l w.obj (who w.obj s) h) w.slots (In a) none (λ n. absurd (n refl)) (λ s _. inv.words.fits s);
-      cells = inv.words.cells;
-      dead = inv.words.dead;
-      kinds = inv.words.kinds;
-    };
-    bits = inv.bits;
-    wins = own_wins a none (drop w a).count free (λ u r e nr one'. put_other w.count (in_ref w a) (in_ref w (RegisterOf u r)) (w.count (in_ref w a) - 1) (λ q. free u r (let P : Window → Type 0 = λ x. Uses x (By r) in subst P (sym e) refl) (let y : In a ≡ In (RegisterOf u r) = others (In (RegisterOf u r)) (In a) nr one' (sym q) in cc)) ∙ one');
-  }
+  drop_ok a ne free = own_ok a none (drop w a).count (λ n. absurd (n refl)) (λ n. absurd (n refl)) free
+      (λ o nz live made. let x = total_place z w.slots none o (In a) (inv.words.inside (In a) ne) in let c = inv.words.counts o nz live made in let b = down w.count (in_ref w a) o (count_pos (In a) ne) in let y : one 0 o ≡ 0 = one_other 0 o (λ q. nz (sym q)) in omega arith)
+      (λ u r e nr one'. put_other w.count (in_ref w a) (in_ref w (RegisterOf u r)) (w.count (in_ref w a) - 1) (λ q. free u r (let P : Window → Type 0 = λ x. Uses x (By r) in subst P (sym e) refl) (let y : In a ≡ In (RegisterOf u r) = others (In (RegisterOf u r)) (In a) nr one' (sym q) in cc)) ∙ one')
 
   pub shift_ok : (a b : Holder) → (b ≡ a → ⊥) → Inside z (In a) → Inside z (In b) → in_ref w b ≡ 0 → ((w.slots (In a)).reference ≢ 0 → l.private (w.slots (In a)).ty ≡ true → thread_of a ≡ thread_of b) → Free w a → Free w b → WorldInvariant z l (shift w a b)
   shift_ok a b ab ia ib e own fa fb =

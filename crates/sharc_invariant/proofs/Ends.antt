@@ -1,5 +1,5 @@
 -- Only an Exit makes a thread one that has returned.
-use Rattle.sharc_invariant.proofs.Imports.{◌≡◌, ℕ, ◌||◌, true, false, refl, sym, ap, ◌∙◌, Instr, Shape, Stage, Withdraws, WithdrawsFrom, Leaves, Machine, Own, TurnOutcome, Stays, Rested, Begun, Refused, Gone, own_after, state_after, MayComeOut, ComesOut, has_stage, is_exit, has_returned, is_ended, is_withdrawing, yes}
+use Rattle.sharc_invariant.proofs.Imports.{◌≡◌, ℕ, ◌||◌, true, false, refl, sym, ap, ◌∙◌, Instr, Shape, Stage, Withdraws, WithdrawsFrom, Leaves, Machine, Own, TurnOutcome, Stays, Gone, own_after, state_after, MayComeOut, ComesOut, has_stage, is_exit, has_returned, is_ended, is_withdrawing, yes}
 
 -- no stage of another instruction withdraws
 pub calm_stage : (i : Instr) (stage : Stage) → has_stage i stage ≡ true → is_exit i ≡ false → is_withdrawing stage ≡ false
@@ -15,11 +15,7 @@ module _ (s : Shape) (i : Instr) (found : ℕ) (m x : Machine) (out : ComesOut s
     where
       by : (o : TurnOutcome) → MayComeOut s i m found o → is_withdrawing (own_after o m.own).stage ≡ false
       by (Stays stage) may = calm_stage i stage may.0 other
-      by (Rested heads) may = refl
-      by (Begun function) may = refl
-      by (Refused function site) may = refl
-      by Gone may = refl
-      by _ may = calm
+      by _ may = cc
 
   pub unended : is_ended x.at.state ≡ false
   unended = ap is_ended out.state ∙ by out.outcome out.may

@@ -1,5 +1,5 @@
 -- The turns of an Exit: it says that the thread returned, withdraws from each granule of its table, and says that it is gone.
-use Rattle.sharc_invariant.proofs.{Imports.{◌≡◌, ℕ, zero, suc, ◌+◌, ◌*◌, ◌^◌, ◌<◌, ◌≤◌, ◌≢◌, ◌⊎◌, ◌||◌, ◌&&◌, Bool, true, false, cond, List, [], None, refl, sym, ap, ◌∙◌, subst, inl, inr, ⊎_elim, arith, ltb-true, cases_eq, cases_lt, nat_tests, set-get_or, length-set, fun_ext, length, slice_index, slice_set, take, nat_lt, nat_eq, ◌==◌, THREADS, Load, Swap, Cas, ShadowLaws, note_of, withdrawn_of, epoch_of, Kind, Read, Write, Code, Shape, StateOf, RunsOn, Tries, Stopped, Ended, Stage, Rests, Makes, Lowers, Links, Names, Hands, Begins, Withdraws, WithdrawsFrom, Leaves, int_of, Fits as FitsShape, granules, granule_at, top_word, shadow_word, next_thread_word, state_word, function_word, argument_word, Machine, instr_at, step_of, at_stage, exit, withdraws, withdrew, row_of, without_own, turn, may_go, counted, Turn, Global, put, MayTurn, one_thread, bounds, Instr, put_same, put_other, put_all, Passed, withdrawn, Targets, nothing, Label, Labels, IsIn, Fine, IsWellTyped, In, RegisterOf, ArgumentOf, TypedReference, World, Shut, WorldInvariant, in_ref, put2, set_gran, Heap, Kept, Built, InBlock, lang_of, conc_of, MachineView, Shows, Reads, store, has_returned, is_withdrawing, has_withdrawn, is_ended, is_unread, is_first, argument_of, making_of, note_number, noted_by, register_of, staged_of, logged, shadow_at, cell_at, count_at, length_at, made_turn, KeepsOthers, Effect, Silently, Returns, WithdrawsOf, events_of, StopStands, State, Runs, View, view_of, StageStands, SpawnsNow, NumberStands, EntryStands, FramesStand, GateStands, Threads, Firsts, TopStands, label_now, size_of_run, Followed, changes_objects, objects_now, ne_eq, eq_refl}, TurnAt.{turn_at, turn_stands}, Effects.withdraw_ok, Listed.store_ok, Others.{OnHold, loses}, Quiet.{KeepsThread, KeepsMost, heap_now, put_self, sum_up, label_held, freed_held, most_state, started_still, args_still, sizes_kept, part_same}, Changes.{KeepsPart, KeepsLow, lower, conc_now, alike_state}, Turns.{asks_turn, room_of}, Stores.{index_put, arena, shadow_store, stored_within}, Seen.{shadow_stored, put2_off}, Heaps.apart_stored, Clears.part_words, Uncounted.granule_cases, Withdrawn.{is_row, one_more, row_low, first_row, noted_withdraws, wrote_now, withdrawn_reads, withdrawn_small}, Owned.{effect_objects, behind_same}, Frees.{same_le as two_le}, Plain.{others_stay, same_others}}
+use Rattle.sharc_invariant.proofs.{Imports.{◌≡◌, ℕ, zero, suc, ◌+◌, ◌*◌, ◌^◌, ◌<◌, ◌≤◌, ◌≢◌, ◌⊎◌, ◌||◌, ◌&&◌, Bool, true, false, cond, List, [], None, refl, sym, ap, ◌∙◌, subst, inl, inr, ⊎_elim, arith, ltb-true, cases_eq, cases_lt, nat_tests, set-get_or, length-set, fun_ext, length, slice_index, slice_set, take, nat_lt, nat_eq, ◌==◌, THREADS, Load, Swap, Cas, ShadowLaws, note_of, withdrawn_of, epoch_of, Kind, Read, Write, Code, Shape, StateOf, RunsOn, Tries, Stopped, Ended, Stage, Rests, Withdraws, WithdrawsFrom, Leaves, int_of, Fits as FitsShape, granules, granule_at, top_word, shadow_word, next_thread_word, state_word, function_word, argument_word, Machine, instr_at, step_of, at_stage, exit, withdraws, withdrew, row_of, without_own, turn, may_go, counted, Turn, Global, put, MayTurn, one_thread, bounds, Instr, put_same, put_other, put_all, Passed, withdrawn, Targets, nothing, Label, Labels, IsIn, Fine, IsWellTyped, In, RegisterOf, ArgumentOf, TypedReference, World, Shut, WorldInvariant, in_ref, put2, set_gran, Heap, Kept, Built, InBlock, lang_of, conc_of, MachineView, Shows, Reads, store, has_returned, is_withdrawing, has_withdrawn, is_ended, is_unread, is_first, argument_of, making_of, note_number, noted_by, register_of, staged_of, shadow_at, cell_at, count_at, length_at, made_turn, KeepsOthers, Effect, Silently, Returns, WithdrawsOf, events_of, StopStands, State, Runs, View, view_of, StageStands, SpawnsNow, NumberStands, EntryStands, FramesStand, GateStands, Threads, Firsts, TopStands, label_now, size_of_run, Followed, changes_objects, objects_now, ne_eq, eq_refl, or_false, or_second, zero_le}, TurnAt.{turn_at, turn_stands}, Effects.withdraw_ok, Listed.store_ok, Others.{OnHold, loses}, Quiet.{KeepsThread, KeepsMost, heap_now, put_self, sum_up, label_held, freed_held, most_state, started_still, args_still, sizes_kept, conc_turned}, Changes.{KeepsPart, KeepsLow, lower, conc_now, alike_state}, Turns.{asks_turn, room_of}, Stores.{index_put, arena, shadow_store, stored_within}, Seen.{shadow_stored, put2_off}, Heaps.apart_stored, Clears.part_words, Uncounted.granule_cases, Withdrawn.{is_row, one_more, row_low, first_row, noted_withdraws, wrote_now, withdrawn_reads, withdrawn_small}, Owned.{effect_objects, behind_same}, Frees.{same_le as two_le}, Plain.{others_stay, same_others}}
 
 -- ---- the stages
 abbrev pub IsExiting : Stage → Type 0
@@ -158,14 +158,9 @@ module _ (x : Targets) (code : Code) (s : Shape) (ls : Labels) (wt : IsWellTyped
     conc_is : conc_of code now ≡ store (conc_of code g) k v
     conc_is =
         let wd : (λ j. slice_index words j) ≡ put (λ i. slice_index g.words i) k v = fun_ext at in
-        let rs : (λ u. register_of code (now.threads u)) ≡ (λ u. register_of code (g.threads u)) = fun_ext (part_same (register_of code) g.threads t m' (fun_ext (same_regs q y ey))) in
+        let rs : put (λ u. register_of code (g.threads u)) t (register_of code m') ≡ (λ u. register_of code (g.threads u)) = fun_ext (put_self (λ u. register_of code (g.threads u)) t (register_of code m') (fun_ext (same_regs q y ey))) in
         let ar = fun_ext args_same in
-        let lo : (λ u. logged (now.threads u)) ≡ (λ u. logged (g.threads u)) = fun_ext (part_same logged g.threads t m' refl) in
-        let sg : (λ u. staged_of (now.threads u).own.stage) ≡ (λ u. staged_of (g.threads u).own.stage) = fun_ext (part_same (λ m. staged_of m.own.stage) g.threads t m' ((exiting_calm y ey).staged ∙ sym (exiting_calm m.own.stage exiting).staged)) in
-        let nt : (kind : Kind) → (λ u. noted_by (now.threads u) kind) ≡ (λ u. noted_by (g.threads u) kind) = λ kind. fun_ext (part_same (λ m. noted_by m kind) g.threads t m' (fun_ext (same_notes kind))) in
-        let rd = nt Read in
-        let wr = nt Write in
-        λ i. record { words = wd i; regs = rs i; args = ar i; logs = lo i; staged = sg i; read_notes = rd i; write_notes = wr i }
+        conc_turned code g t words m' refl ((exiting_calm y ey).staged ∙ sym (exiting_calm m.own.stage exiting).staged) same_notes ∙ (λ i. record (conc_of code g) { words = wd i; regs = rs i; args = ar i })
 
     sim_now : Shows x s st.cells st.elements (conc_of code now) world
     sim_now = subst (λ c. Shows x s st.cells st.elements c world) (sym conc_is)
@@ -317,16 +312,8 @@ module _ (x : Targets) (code : Code) (s : Shape) (ls : Labels) (wt : IsWellTyped
     noted_next M e kind q =
         let a = one_more order row q lt_row in
         e kind q ∙ ap (λ b. cond b 0 (N kind q)) a ∙ put_all (λ q n. cond (is_row (take row order) q || q == p) 0 (N kind q) ≡ n) (noted_by m kind) p 0
-        (ap (λ b. cond (is_row (take row order) p || b) 0 (N kind p)) (eq_refl p) ∙ or_true (is_row (take row order) p) (N kind p))
-        (λ q ne. ap (λ b. cond (is_row (take row order) q || b) 0 (N kind q)) (ne_eq q p ne) ∙ or_false (is_row (take row order) q) (N kind q) ∙ sym (noted_was kind q)) q
-      where
-        or_true : (b : Bool) (n : ℕ) → cond (b || true) 0 n ≡ 0
-        or_true true n = refl
-        or_true false n = refl
-
-        or_false : (b : Bool) (n : ℕ) → cond (b || false) 0 n ≡ cond b 0 n
-        or_false true n = refl
-        or_false false n = refl
+        (ap (λ b. cond (is_row (take row order) p || b) 0 (N kind p)) (eq_refl p) ∙ ap (λ b. cond b 0 (N kind p)) (or_second (is_row (take row order) p) true refl))
+        (λ q ne. ap (λ b. cond (is_row (take row order) q || b) 0 (N kind q)) (ne_eq q p ne) ∙ ap (λ b. cond b 0 (N kind q)) (or_false (is_row (take row order) q)) ∙ sym (noted_was kind q)) q
 
     -- the word that it found is there still
     module _ (there : slice_index g.words kp ≡ seen) (long : kp < length g.words) where
@@ -535,9 +522,6 @@ module _ (x : Targets) (code : Code) (s : Shape) (ls : Labels) (wt : IsWellTyped
       (λ c few. says_state x code s ls wt fits laws g world st tr may is ex RunsOn Leaves tt (λ kind p. notes_at 0 (zero_le (length n.own.table.order)) false c kind p ∙ sym (was kind p)) 2 (two_le 2) (two_low 2) long few (λ _. tt)) few in
       let e = Returns (record { obj = refl; mutex = refl; passed = λ o p u b q. q; sole = λ u r e. (e, refl) }) in record { turned = (world, subst (λ y. State x code s ls y world) (sym d) st', e); ends = λ _. inr refl; objects = same_objects world e }
     where
-      zero_le : (k : ℕ) → 0 ≤ k
-      zero_le k = omega arith
-
       two_low : (k : ℕ) → 2 < 2 ^ 64
       two_low k = omega arith
 

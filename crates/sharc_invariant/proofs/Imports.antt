@@ -3,7 +3,7 @@ pub use Rattle.std.proofs.{Common.{Bool, Err, List, None, Ok, Option, Result, So
 pub use Rattle.std.specs.{Int.{int_bit_and, int_bit_or, int_bit_xor, int_shr, trailing_zeros, w64}, List.list_any, Prelude.{Contains, bit_and, bit_or, bit_xor, filter, fold, if◌then◌else◌, int_div, int_le, int_lt, int_rem, is_some, length, map, max, min, nat_eq, nat_le, nat_lt, neg_ℤ, replicate, slice_index, slice_index_or, slice_set, take, ◌*ℤ◌, ◌++◌, ◌+ℤ◌, ◌-ℤ◌, ◌==◌, ◌↔◌}}
 pub use lib.Signed.{mag, mag_rem, mag_shr}
 pub use mathlib.Core.Path.{fun_ext}
-pub use Rattle.sharc_lemmas.proofs.{Bools.{not_true, or_split as or_true, yes}, Lists.{same_or, set_null}, Numbers.{eq_refl, le_true, ne_eq, not_below as not_less, times_more as suc_times, zero_le}, Options.some_of}
+pub use Rattle.sharc_lemmas.proofs.{Bools.{and_false, and_true, not_true, or_assoc, or_false, or_split as or_true, yes}, Lists.{same_or, set_null}, Numbers.{eq_refl, le_true, ne_eq, not_below as not_less, times_more as suc_times, zero_le}, Options.some_of}
 pub use Rattle.sharc_word.specs.{History.MayFollow, Words.{word_after, words_after_step}, declared.step.TheConstants.THREADS, declared.step.WordEvent.WordEvent, declared.step.WordOp.WordOp, declared.step.WordOp.TheVariants.{Add, Cas, Load, Or, Sub, Swap}, declared.step.WordStep.WordStep}
 pub use Rattle.sharc_heap.specs.{Accesses.{Accesses, ListsNoted, is_noted, note_of, site_at}, Asks.{granule_number, top_word as top_number, word_number}, Block.block_of, Count.{lower_of, raise_of, test_of}, Functions.{all_but, bits_of, lowest_other}, NewLaws.NewLaws, Notes.{blank, has_note, of_kind}, ShadowLaws.ShadowLaws, ShadowWord.{AddsAccess, Conflicts, HasOther, IsBlank, Withdraws as WithdrawsWord, is_of, is_write, is_written, stands}, Stages.{after_cell, next_head, next_stage, try_from, turn_of_stage}, State.{NewView, told, turn_of}, declared.access_table.GranuleNotes.GranuleNotes, declared.access_table.Note.Note, declared.arguments.NewArguments.NewArguments, declared.shadow_word.Kind.Kind, declared.shadow_word.Kind.TheVariants.{Read, Write}, declared.stage.NewStage.NewStage, declared.stage.NewTurn.TheVariants.Do}
 unfoldable pub use Rattle.sharc_heap.specs.{Functions.{cleared_of, conflicts_in, noted, withdrawn_of}, ShadowWord.epoch_of}

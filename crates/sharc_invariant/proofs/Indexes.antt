@@ -1,5 +1,5 @@
 -- Indexes are within their objects.
-use Rattle.sharc_invariant.proofs.{Imports.{◌≡◌, ℕ, ℤ, pos, negsuc, suc, ◌+◌, ◌-◌, ◌*◌, ◌/◌, ◌^◌, ◌<◌, ◌≤◌, ◌≢◌, true, false, cond, refl, sym, ap, ◌∙◌, subst, ⊎_elim, arith, ltb-true, cases_eq, nat_tests, mul-le-mul_left, mul_comm, slice_index, nat_lt, Load, Code, Instr, Long, Shape, Trap, int_of, Fits, granules, granule_at, length_word, Machine, instr_at, int, ref, goes, set_int, indexed, field_of, stopped, step_of, Turn, Global, put, MayTurn, one_thread, bounds, put_same, Targets, ObjectType, cells_of, Element, Named, Nth, Fresh, Number, Anything, Within, Exactly, Indexes, OfElement, OfGlobal, Closed, Label, Labels, Leads, set_number, IsWellTyped, IsInt, IsElement, World, RegisterOf, In, in_ref, length_at, made_turn, State, View, NumberStands, ElementStands, EntryStands, TopStands, refs_at, types_at, Turned}, TurnAt.turn_at, Turns.{asks_turn, local_turn, room_of, unseen}, Own.{is_single, runs, rests, top, fine}, Plain.{register_plain, is_shut, stop_state, numbers_state}, Accesses.{back_again, loaded_words}, Steps.number_named}
+use Rattle.sharc_invariant.proofs.{Imports.{◌≡◌, ℕ, ℤ, pos, negsuc, suc, ◌+◌, ◌-◌, ◌*◌, ◌/◌, ◌^◌, ◌<◌, ◌≤◌, ◌≢◌, true, false, cond, refl, sym, ap, ◌∙◌, subst, ⊎_elim, arith, ltb-true, cases_eq, nat_tests, mul-le-mul_left, mul_comm, slice_index, nat_lt, Load, Code, Instr, Long, Shape, Trap, int_of, Fits, granules, granule_at, length_word, Machine, instr_at, int, ref, goes, set_int, indexed, field_of, stopped, step_of, Turn, Global, put, MayTurn, one_thread, bounds, put_same, Targets, ObjectType, cells_of, Element, Named, Nth, Fresh, Number, Exactly, Indexes, OfElement, OfGlobal, Closed, Label, Labels, Leads, set_number, IsWellTyped, IsInt, IsElement, World, RegisterOf, In, in_ref, length_at, made_turn, State, View, NumberStands, ElementStands, EntryStands, TopStands, refs_at, types_at, Turned}, TurnAt.turn_at, Turns.{asks_turn, local_turn, room_of, unseen}, Own.{is_single, runs, rests, top, fine}, Plain.{register_plain, is_shut, stop_state, numbers_state}, Accesses.{back_again, loaded_words}, Steps.number_named}
 use Rattle.sharc_tree.specs.declared.trap.Trap.TheVariants as traps
 
 -- a new name for a value
@@ -24,12 +24,8 @@ module _ (x : Targets) (t : ℕ) (v : View) (base ints : ℕ) (names : ℕ → �
 
   names_of : (num : Number) (e : Element) → IsElement l num e → NumberStands x v.elements (refs_at v base) (types_at v base) names (pos n) num → Names x t v base ints l n e
   names_of (Exactly z) (Nth k) h st = record { names = names; top = tp; stands = let q : pos n ≡ pos k = st ∙ h in cc }
-  names_of (Exactly z) (Named name) h st = fresh_names name h
   names_of (Indexes m) (Named name) h st = record { names = names; top = tp; stands = ap names h ∙ sym st }
-  names_of Anything (Named name) h st = fresh_names name h
-  names_of (Within w) (Named name) h st = fresh_names name h
-  names_of (OfElement b f d) (Named name) h st = fresh_names name h
-  names_of (OfGlobal a b c d) (Named name) h st = fresh_names name h
+  names_of _ (Named name) h st = fresh_names name h
   names_of _ (Nth k) h st = absurd h
 
 -- the number of a field

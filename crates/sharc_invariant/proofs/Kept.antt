@@ -1,5 +1,5 @@
 -- Each turn keeps the invariant.
-use Rattle.sharc_invariant.proofs.{Imports.{◌≡◌, refl, ap, Bool, true, false, sym, ◌∙◌, subst, ShadowLaws, Read, Write, NewLaws, Code, Instr, Shape, Fits, Machine, instr_at, act, TurnsComeOut, is_exit, Turn, Global, MayTurn, result_of, after_turn, one_thread, bounds, Stage, Withdraws, WithdrawsFrom, Leaves, after, Register, Targets, is_pointer, Labels, IsWellTyped, World, State, IsSmall, StageStands, OnExit, Turned, Followed, Keeps, is_withdrawing, has_returned, lang_of, changes_objects, objects_now, put_same}, Own.fine, Counts.{Raise_keeps, Lower_keeps}, Steps.{of_turn, Constant_keeps, Move_keeps, Negate_int_keeps, Negate_long_keeps, Not_keeps, Same_keeps, Width_keeps, Jump_keeps, Jump_zero_keeps, Jump_null_keeps, Null_check_keeps, Not_held_keeps, Positive_keeps, Room_keeps}, Held.{Held_keeps, Lock_check_keeps, Lock_check_loaded_keeps}, Checked.check_keeps, Loads.Raise_loaded_keeps, Swaps.{Exchange_keeps, Take_cell_keeps}, Sole.{Test_sole_keeps, Null_keeps}, Indexes.{Bounds_keeps, Global_bounds_keeps}, Waits.{Cond_enter_keeps, Join_keeps, Cond_wait_keeps, Cond_broadcast_keeps}, Moves.{Move_reference_keeps, Take_local_keeps}, Calls.Call_keeps, Returns.Return_keeps, Computes.{fits_now, Compute_int_keeps, Compute_long_keeps, Complement_keeps}, Locked.{Lock_keeps, Unlock_keeps}, Signals.Cond_signal_keeps, Prints.Print_keeps, Gives.Give_keeps, ClearTurns.Clear_keeps, Starts.Start_keeps, Spawns.{Spawn_number_keeps, Spawn_reference_keeps}, Accesses.{Load_keeps, Store_keeps, LoadRef_keeps}, Makings.New_keeps, Links.Free_keeps, Exits.Exit_follows, Ends.goes_on, Owned.{effect_objects, behind_same}}
+use Rattle.sharc_invariant.proofs.{Imports.{◌≡◌, refl, ap, Bool, true, false, sym, ◌∙◌, subst, ShadowLaws, Read, Write, NewLaws, Code, Instr, Shape, Fits, Machine, instr_at, act, TurnsComeOut, is_exit, Turn, Global, MayTurn, result_of, one_thread, bounds, Stage, Withdraws, WithdrawsFrom, Leaves, after, Register, Targets, is_pointer, Labels, IsWellTyped, World, State, IsSmall, StageStands, OnExit, Turned, Followed, Keeps, is_withdrawing, has_returned, changes_objects, objects_now, put_same}, Own.fine, Counts.{Raise_keeps, Lower_keeps}, Steps.{of_turn, Constant_keeps, Move_keeps, Negate_int_keeps, Negate_long_keeps, Not_keeps, Same_keeps, Width_keeps, Jump_keeps, Jump_zero_keeps, Jump_null_keeps, Null_check_keeps, Not_held_keeps, Positive_keeps, Room_keeps}, Held.{Held_keeps, Lock_check_keeps, Lock_check_loaded_keeps}, Checked.check_keeps, Loads.Raise_loaded_keeps, Swaps.{Exchange_keeps, Take_cell_keeps}, Sole.{Test_sole_keeps, Null_keeps}, Indexes.{Bounds_keeps, Global_bounds_keeps}, Waits.{Cond_enter_keeps, Join_keeps, Cond_wait_keeps, Cond_broadcast_keeps}, Moves.{Move_reference_keeps, Take_local_keeps}, Calls.Call_keeps, Returns.Return_keeps, Computes.{fits_now, Compute_int_keeps, Compute_long_keeps, Complement_keeps}, Locked.{Lock_keeps, Unlock_keeps}, Signals.Cond_signal_keeps, Prints.Print_keeps, Gives.Give_keeps, ClearTurns.Clear_keeps, Starts.Start_keeps, Spawns.{Spawn_number_keeps, Spawn_reference_keeps}, Accesses.{Load_keeps, Store_keeps, LoadRef_keeps}, Makings.New_keeps, Links.Free_keeps, Exits.Exit_follows, Ends.goes_on, Owned.unchanged}
 
 -- an instruction that may make, give or free an object
 abbrev is_of_objects : Instr → Bool
@@ -82,20 +82,12 @@ module _ (x : Targets) (code : Code) (s : Shape) (ls : Labels) (wt : IsWellTyped
   abbrev Done : Type 0
   Done = (k : Turned x code s ls g world tr) × (k.0.obj ≡ objects_now code s ls g tr world.obj)
 
-  unchanged : (i : Instr) (m : Machine) → is_of_objects i ≡ false → changes_objects i m ≡ false
-  unchanged (Instr.New r count cells site) m e = absurd (cc)
-  unchanged (Instr.Give r site) m e = absurd (cc)
-  unchanged (Instr.Free r layout site) m e = absurd (cc)
-  unchanged _ m e = refl
+  changes_none : (i : Instr) (m : Machine) → is_of_objects i ≡ false → changes_objects i m ≡ false
+  changes_none (Instr.New r count cells site) m e = cc
+  changes_none _ m e = cc
 
   plain : (i : Instr) → instr_at code (g.threads tr.thread).at.pc ≡ i → is_of_objects i ≡ false → Turned x code s ls g world tr → Done
-  plain i is e k =
-      let m = g.threads tr.thread in
-      let c : changes_objects (instr_at code m.at.pc) m ≡ false = ap (λ i. changes_objects i m) is ∙ unchanged i m e in (
-        k,
-        effect_objects (lang_of x) tr.thread (has_returned m) (changes_objects (instr_at code m.at.pc) m) world k.0 k.2 c
-            ∙ sym (behind_same ls tr.thread (instr_at code m.at.pc) m ((after_turn bounds (one_thread code s) g tr).threads tr.thread) world.obj c),
-      )
+  plain i is e k = unchanged x code s ls g world tr (ap (λ i. changes_objects i (g.threads tr.thread)) is ∙ changes_none i (g.threads tr.thread) e) k
 
   each : (i : Instr) → instr_at code (g.threads tr.thread).at.pc ≡ i → is_exit i ≡ false → Done
   each (Instr.New r count cells site) is k = New_keeps x code s ls wt fits blocks g world st tr may r count cells site is

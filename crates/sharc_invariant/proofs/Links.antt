@@ -1,5 +1,5 @@
 -- The last turn of a Free: the block of the dead object goes to the thread's list.
-use Rattle.sharc_invariant.proofs.{Imports.{◌≡◌, ℕ, suc, ◌+◌, ◌*◌, ◌^◌, ◌<◌, ◌≤◌, ◌≢◌, true, false, cond, List, None, Some, refl, sym, ap, ◌∙◌, subst, ⊎_elim, arith, cases_eq, cases_order, get_or-set_same, get_or-set_other, length-set, fun_ext, length, slice_index, slice_set, ◌==◌, THREADS, Swap, ShadowLaws, note_of, epoch_of, Kind, Read, Write, Code, Layout, Instr, Shape, Stage, Rests, Empties, Lowers, FreeLooks, FreeClears, Uncounts, Links, RunsOn, Tries, Stopped, Ended, Fits as FitsShape, granules, top_word, length_word, Machine, step_of, instr_at, ref, layout_at, size_of, free_size, free_head, freed_machine, may_go, Turn, Global, put, MayTurn, after_turn, one_thread, bounds, put_same, put_other, put_all, sum_to, Targets, Label, Labels, empty, Fine, IsWellTyped, World, Shut, put2, Heap, Kept, Built, Live, Listed, pushed, lang_of, conc_of, Shows, head_of, head_with, making_of, is_freed, is_ended, has_withdrawn, note_number, noted_by, register_of, staged_of, length_at, has_returned, made_turn, KeepsOthers, State, Runs, view_of, StageStands, FramesStand, GateStands, HeapStands, TopStands, label_now, block_for, IsSmall, Turned, changes_objects, objects_now, frees_object, ne_eq, eq_refl, set_null}, TurnAt.{turn_at, turn_stands}, Listed.{push_ok, put2_same, put2_other}, Quiet.{put_self, locks_same, sizes_kept}, Changes.{KeepsPart, KeepsLower, conc_now, changed_state}, Turns.{asks_turn, room_of, unseen}, Stores.{index_put, arena}, Clears.sum_more, Frames.less_stands, Own.{runs_at, closed_less}, Heaps.{size_power, same_power, apart_stored, built_size, block_word, low_block, listed_size, built_dead}, Frees.{free_fine, free_begun, free_act, free_first, free_looks_turn, free_swaps}, Empties.{free_empties, free_lowers}, Uncounted.free_uncounts, Walks.IsWalk, Owned.{effect_objects, behind_same}, Sweeps.length_is, Plain.others_heap}
+use Rattle.sharc_invariant.proofs.{Imports.{◌≡◌, ℕ, suc, ◌+◌, ◌*◌, ◌^◌, ◌<◌, ◌≤◌, ◌≢◌, true, false, cond, List, None, Some, refl, sym, ap, ◌∙◌, subst, ⊎_elim, arith, cases_eq, cases_order, get_or-set_same, get_or-set_other, length-set, fun_ext, length, slice_index, slice_set, ◌==◌, THREADS, Swap, ShadowLaws, note_of, epoch_of, Kind, Read, Write, Code, Layout, Instr, Shape, Stage, Rests, Empties, Lowers, FreeLooks, FreeClears, Uncounts, Links, RunsOn, Tries, Stopped, Ended, Fits as FitsShape, granules, top_word, length_word, Machine, step_of, instr_at, ref, layout_at, size_of, free_size, free_head, freed_machine, may_go, Turn, Global, put, MayTurn, after_turn, one_thread, bounds, put_same, put_other, put_all, sum_to, Targets, Label, Labels, empty, Fine, IsWellTyped, World, Shut, put2, Heap, Kept, Built, Live, Listed, pushed, conc_of, Shows, head_of, head_with, making_of, is_freed, is_ended, has_withdrawn, note_number, noted_by, register_of, staged_of, length_at, made_turn, KeepsOthers, State, Runs, view_of, StageStands, FramesStand, GateStands, HeapStands, TopStands, label_now, block_for, IsSmall, Turned, changes_objects, objects_now, frees_object, ne_eq, eq_refl, set_null}, TurnAt.{turn_at, turn_stands}, Listed.{push_ok, put2_same, put2_other}, Quiet.{put_self, locks_same, sizes_kept}, Changes.{KeepsPart, KeepsLower, conc_now, changed_state}, Turns.{asks_turn, room_of, unseen}, Stores.{index_put, arena}, Clears.sum_more, Frames.less_stands, Own.{runs_at, closed_less}, Heaps.{size_power, same_power, apart_stored, built_size, block_word, low_block, listed_size, built_dead}, Frees.{free_fine, free_begun, free_act, free_first, free_looks_turn, free_swaps}, Empties.{free_empties, free_lowers}, Uncounted.free_uncounts, Walks.IsWalk, Owned.unchanged, Sweeps.length_is, Plain.others_heap}
 
 -- the size of the list is that of the block for the cells
 size_for : (all c : ℕ) → size_of (Rattle.sharc_heap.specs.Block.block_of (Rattle.sharc_code.specs.Machine.all_cells all c)) ≡ size_of (block_for (all * c))
@@ -250,11 +250,7 @@ module _ (x : Targets) (code : Code) (s : Shape) (ls : Labels) (wt : IsWellTyped
 
   -- no object changes
   plain : frees_object (g.threads tr.thread).own.stage ≡ false → Turned x code s ls g world tr → Done
-  plain e k =
-      let m = g.threads tr.thread in
-      let i = instr_at code m.at.pc in
-      let c : changes_objects i m ≡ false = ap (λ i. changes_objects i m) is ∙ e in
-      (k, effect_objects (lang_of x) tr.thread (has_returned m) (changes_objects i m) world k.0 k.2 c ∙ sym (behind_same ls tr.thread i m ((after_turn bounds (one_thread code s) g tr).threads tr.thread) world.obj c))
+  plain e k = unchanged x code s ls g world tr (ap (λ i. changes_objects i (g.threads tr.thread)) is ∙ e) k
 
   by_stage : (y : Stage) → (g.threads tr.thread).own.stage ≡ y → StageStands code s st.elements world st.heap g.words tr.thread (g.threads tr.thread) (Instr.Free r layout site) y → Done
   by_stage Rests e h = plain (ap frees_object e) (free_first x code s ls wt laws g world st tr may r layout site is (subst IsWalk (sym e) tt) e)

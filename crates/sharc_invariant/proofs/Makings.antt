@@ -1,5 +1,5 @@
 -- The last turn of a New: the length is written, and the object is there.
-use Rattle.sharc_invariant.proofs.{Imports.{◌≡◌, ℕ, suc, ◌+◌, ◌*◌, ◌^◌, ◌<◌, ◌≤◌, ◌≢◌, true, false, cond, List, None, Some, refl, sym, ap, ◌∙◌, subst, inl, ⊎_elim, arith, cases_eq, eqb-true, eqb-false, get_or-set_same, get_or-set_other, length-set, fun_ext, length, slice_index, slice_set, nat_lt, min, max, ◌==◌, ◌↔◌, is_some, Contains, THREADS, Swap, NewLaws, NewView, told, NewArguments, epoch_of, Kind, Read, Write, NewStage, object_of, Code, Shape, RunsOn, Rests, Makes, Fits as FitsShape, granules, top_word, first_cell, Machine, instr_at, int, elements_of, size_of, new_state, asks_new, goes_on_new, made_machine, turn, Turn, Global, put, MayTurn, after_turn, one_thread, bounds, Instr, put_same, put_other, put_all, GranuleState, Bits, Passed, sum_to, Targets, ObjectType, field_in, is_mutex, type_at, type_of, cells_of, Labels, Refers, fill, Unknown, LessEntry, Fine, IsWellTyped, refs_in, ints_in, In, RegisterOf, CellOf, TypedReference, ObjectState, World, Shut, WorldInvariant, in_ref, make, null, place, put2, Heap, Kept, Built, Live, InBlock, IsListed, restated, Apart, MachineView, IsNobodys, lang_of, conc_of, Shows, shown, set_reg, store, cell_at, count_at, length_at, head_of, head_with, making_of, register_of, staged_of, noted_by, has_returned, fresh_granule, made_turn, KeepsOthers, MakesOf, State, View, Runs, view_of, BuildsAt, HeapStands, Locks, TopStands, FramesStand, EntryStands, types_at, block_for, size_of_run, Turned, changes_objects, objects_now, objects_behind, owned, makes_object, is_length, new_behind, made_behind}, TurnAt.{turn_at, turn_stands}, Effects.{make_ok, place_same, place_other}, Frames.{Agrees, Always, Low, filled, fill_stands, top_agrees, callers_agree, less_stands}, Filled.below_filled, Listed.restate_ok, Quiet.{heap_now, put_self, sum_up, sizes_kept}, Changes.{KeepsPart, conc_now, changed_state, held_same}, Turns.{asks_turn, room_of}, Own.{runs_at, closed_less, ref_inside}, Seen.reg_stored, Stores.arena, Unlogged.logged_entry, Heaps.{IsApart, apart_stored, block_word, built_size, low_block, built_dead}, Builds.{IsMaking, new_fine, new_begun, new_top, new_shut, new_register, new_noted, own_at, own_off, own_low, own_kept, own_others, own_epochs}, News.{IsGiven, is_given, word_in, new_first, clears_cell, counts_one, moves_top}, Objects.{block_is, stale_sound, found_granules, made_sim, positive, factor_low}, Others.loses, Owned.{owned_is, effect_objects, behind_same}}
+use Rattle.sharc_invariant.proofs.{Imports.{◌≡◌, ℕ, suc, ◌+◌, ◌*◌, ◌^◌, ◌<◌, ◌≤◌, ◌≢◌, true, false, cond, List, None, Some, refl, sym, ap, ◌∙◌, subst, inl, ⊎_elim, arith, cases_eq, eqb-true, eqb-false, get_or-set_same, get_or-set_other, length-set, fun_ext, length, slice_index, slice_set, nat_lt, min, max, ◌==◌, ◌↔◌, is_some, Contains, THREADS, Swap, NewLaws, NewView, told, NewArguments, epoch_of, Kind, Read, Write, NewStage, object_of, Code, Shape, RunsOn, Rests, Makes, Fits as FitsShape, granules, top_word, first_cell, Machine, instr_at, int, elements_of, size_of, new_state, asks_new, goes_on_new, made_machine, turn, Turn, Global, put, MayTurn, after_turn, one_thread, bounds, Instr, put_same, put_other, put_all, GranuleState, Bits, Passed, sum_to, Targets, ObjectType, field_in, is_mutex, type_at, type_of, cells_of, Labels, Refers, fill, Unknown, LessEntry, Fine, IsWellTyped, refs_in, ints_in, In, RegisterOf, CellOf, TypedReference, ObjectState, World, Shut, WorldInvariant, in_ref, make, null, place, put2, Heap, Kept, Built, Live, InBlock, IsListed, restated, Apart, MachineView, IsNobodys, lang_of, conc_of, Shows, shown, set_reg, store, cell_at, count_at, length_at, head_of, head_with, making_of, register_of, staged_of, noted_by, fresh_granule, made_turn, KeepsOthers, MakesOf, State, View, Runs, view_of, BuildsAt, HeapStands, Locks, TopStands, FramesStand, EntryStands, types_at, block_for, size_of_run, Turned, changes_objects, objects_now, objects_behind, owned, makes_object, is_length, new_behind, made_behind, zero_le}, TurnAt.{turn_at, turn_stands}, Effects.{make_ok, place_same, place_other}, Frames.{Agrees, Always, Low, filled, fill_stands, top_agrees, callers_agree, less_stands}, Filled.below_filled, Listed.restate_ok, Quiet.{heap_now, put_self, sum_up, sizes_kept}, Changes.{KeepsPart, conc_now, changed_state, held_same}, Turns.{asks_turn, room_of}, Own.{runs_at, closed_less, ref_inside}, Seen.reg_stored, Stores.arena, Unlogged.logged_entry, Heaps.{IsApart, apart_stored, block_word, built_size, low_block, built_dead}, Builds.{IsMaking, new_fine, new_begun, new_top, new_shut, new_register, new_noted, own_at, own_off, own_low, own_kept, own_others, own_epochs}, News.{IsGiven, is_given, word_in, new_first, clears_cell, counts_one, moves_top}, Objects.{block_is, stale_sound, found_granules, made_sim, positive, factor_low}, Others.loses, Owned.{owned_is, unchanged}}
 use Rattle.sharc_heap.specs.Asks.{step_of, length_word}
 
 module _ (x : Targets) (code : Code) (s : Shape) (ls : Labels) (wt : IsWellTyped x code ls) (fits : FitsShape code s) (laws : NewLaws) (g : Global Machine) (world : World) (st : State x code s ls g world) (tr : Turn)
@@ -182,9 +182,6 @@ module _ (x : Targets) (code : Code) (s : Shape) (ls : Labels) (wt : IsWellTyped
         stale_sound THREADS (shown s c1 (b + 1 + j)) (λ u. sim1.stale (b + 1 + j) (let p = h.0 in let z = size_is in let y = low_b.1 in omega arith) (nobodys j lt) u)
     | false ↦ λ q. stale_sound THREADS fresh_granule (λ u. (zero_le 0, zero_le 0))
   ] refl
-    where
-      zero_le : (n : ℕ) → 0 ≤ n
-      zero_le n = omega arith
 
   shut : world.win tr.thread ≡ Shut
   shut = new_shut x code s ls wt fits g world st tr may r count cells site is making
@@ -476,11 +473,7 @@ module _ (x : Targets) (code : Code) (s : Shape) (ls : Labels) (wt : IsWellTyped
 
   -- no object changes
   plain : makes_object (g.threads tr.thread).own.stage ≡ false → Turned x code s ls g world tr → Done
-  plain e k =
-      let m = g.threads tr.thread in
-      let i = instr_at code m.at.pc in
-      let c : changes_objects i m ≡ false = ap (λ i. changes_objects i m) is ∙ e in
-      (k, effect_objects (lang_of x) tr.thread (has_returned m) (changes_objects i m) world k.0 k.2 c ∙ sym (behind_same ls tr.thread i m ((after_turn bounds (one_thread code s) g tr).threads tr.thread) world.obj c))
+  plain e k = unchanged x code s ls g world tr (ap (λ i. changes_objects i (g.threads tr.thread)) is ∙ e) k
 
   by_stage : (y : Rattle.sharc_code.specs.declared.state.Stage.Stage) → (g.threads tr.thread).own.stage ≡ y
       → Rattle.sharc_invariant.specs.State.StageStands code s st.elements world st.heap g.words tr.thread (g.threads tr.thread) (Instr.New r count cells site) y → Done

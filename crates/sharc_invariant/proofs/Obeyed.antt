@@ -1,5 +1,5 @@
 -- The source events of a run obey the sharing rules.
-use Rattle.sharc_invariant.proofs.{Imports.{◌≡◌, ℕ, suc, ◌⊎◌, Bool, true, false, List, ◌∷◌, refl, sym, ap, ◌∙◌, subst, inl, inr, ⊎_elim, cases_eq, ◌++◌, put, put_same, put_other, GranuleState, Passed, cleared, withdrawn, ObjectType, nothing, CellMode, Private, Readonly, Racy, Dynamic, Locked, Sibling, Behind, TypeRules, TypedReference, Holder, RegisterOf, In, ObjectState, Base, Shut, Sole, World, put2, in_ref, Size, base_of, CanBy, Right, WorldInvariant, set_gran, set_mutex, give, make, freed, none, thread_of, retype, Event, Access, Freed, Return, IsInAccessSet, Held, NoConflict, Closing, Without, Tied, Silent, Effect, Silently, ClearsOf as Clears, Gives, Frees, MakesOf as Makes, Unlocks, Returns, WithdrawsOf as Withdraws, NoneOf, events_of}, Effects.{place_other, put2_all, base_other, sole_at, base_live}}
+use Rattle.sharc_invariant.proofs.{Imports.{◌≡◌, ℕ, suc, ◌⊎◌, Bool, true, false, List, ◌∷◌, refl, sym, ap, ◌∙◌, subst, inl, inr, ⊎_elim, cases_eq, ◌++◌, put, put_same, put_other, GranuleState, Passed, cleared, withdrawn, ObjectType, nothing, CellMode, Dynamic, Locked, Sibling, TypeRules, TypedReference, Holder, RegisterOf, In, ObjectState, Base, Shut, Sole, World, put2, in_ref, Size, base_of, CanBy, Right, WorldInvariant, set_gran, set_mutex, give, make, freed, none, thread_of, retype, Event, Access, Freed, Return, IsInAccessSet, Held, NoConflict, Closing, Without, Tied, Silent, Effect, Silently, ClearsOf as Clears, Gives, Frees, MakesOf as Makes, Unlocks, Returns, WithdrawsOf as Withdraws, NoneOf, events_of}, Effects.{place_other, put2_all, base_other, sole_at, base_live}}
 use Rattle.sharc_invariant.specs.{History.{New, Give, Lock, Unlock, mutex_of, Ok}, Effect.{Accesses, Locks}}
 
 passed_read : (g : GranuleState) (t : ℕ) (k : Bool) → Passed g t k → Passed g t false
@@ -8,13 +8,9 @@ passed_read g t false h = h
 
 module _ (z : Size) (l : TypeRules) (f : ℕ → ObjectState) (w : World) (log : List Event) (inv : WorldInvariant z l w) (tied : Tied l f w log) where
   can_held : (t : ℕ) (k : Bool) (o i : ℕ) (m : CellMode) → CanBy l w t k o i m → Held w.mutex t o m
-  can_held t k o i Private h = tt
-  can_held t k o i Readonly h = tt
-  can_held t k o i Racy h = tt
-  can_held t k o i Dynamic h = tt
   can_held t k o i (Locked p j) h = h
   can_held t k o i (Sibling j) h = h
-  can_held t k o i (Behind j) h = tt
+  can_held t k o i _ h = tt
 
   -- an access that a thread may make
   pub access_tied : (t : ℕ) (k : Bool) (b : Base) (i : ℕ) → Right l w t k b i → ((r : ℕ) → w.win t ≡ Sole r → ⊥) → Tied l f w (Access t (base_of w t b) i k (l.mode (w.obj (base_of w t b)).ty i) ∷ log)

@@ -1,5 +1,5 @@
 -- Which objects there are behind a turn.
-use Rattle.sharc_invariant.proofs.{Imports.{◌≡◌, ℕ, suc, ◌+◌, ◌≢◌, ◌||◌, Bool, true, false, List, refl, sym, ap, ◌∙◌, subst, arith, fun_ext, NewStage, Code, Instr, Shape, Stage, Rests, Makes, Uncounts, Machine, instr_at, ref, may_go, Global, Turn, after_turn, is_started, one_thread, bounds, Targets, type_of, ObjectType, Empty, Refers, Unknown, Labels, TypeRules, RegisterOf, In, World, ObjectState, in_ref, TypedReference, Effect, Silently, ClearsOf as Clears, Gives, Frees, MakesOf, Unlocks, Returns, WithdrawsOf as Withdraws, changes_objects, makes_object, frees_object, is_length, new_behind, made_behind, freed_behind, objects_behind, type_held, entry_type, State, View, view_of, EntryStands, TopStands, label_now, refs_at, types_at, made_turn, put_same}, Others.OnHold, Quiet.label_held, Plain.register_plain}
+use Rattle.sharc_invariant.proofs.{Imports.{◌≡◌, ℕ, suc, ◌+◌, ◌≢◌, Bool, true, false, List, refl, sym, ap, ◌∙◌, subst, arith, fun_ext, NewStage, Code, Instr, Shape, Stage, Rests, Makes, Uncounts, Machine, instr_at, ref, may_go, Global, Turn, after_turn, is_started, one_thread, bounds, Targets, type_of, ObjectType, Empty, Refers, Unknown, Labels, TypeRules, RegisterOf, In, World, ObjectState, in_ref, TypedReference, Effect, Silently, ClearsOf as Clears, Gives, Frees, MakesOf, Unlocks, Returns, WithdrawsOf as Withdraws, changes_objects, makes_object, frees_object, is_length, new_behind, made_behind, freed_behind, objects_behind, type_held, entry_type, State, View, view_of, EntryStands, TopStands, label_now, refs_at, types_at, made_turn, put_same, or_second, Turned, objects_now, lang_of, has_returned}, Others.OnHold, Quiet.label_held, Plain.register_plain}
 use Rattle.sharc_invariant.specs.Effect.{Accesses, Locks}
 
 -- ---- an effect without a change of objects
@@ -60,11 +60,15 @@ owned_is x code s ls g tr on w st m' words done rest go r o ty slot nz told =
     let t = tr.thread in
     let after = after_turn bounds (one_thread code s) g tr in
     let now : after.threads t ≡ m' = ap (λ (g : Global Machine). g.threads t) done ∙ put_same g.threads t m' in
-    let on' : after.started t ≡ true = ap (λ (g : Global Machine). g.started t) done ∙ or_on (is_started bounds words t) (g.started t) on in
+    let on' : after.started t ≡ true = ap (λ (g : Global Machine). g.started t) done ∙ or_second (is_started bounds words t) (g.started t) on in
     let at : w.slots (In (RegisterOf t ((after.threads t).at.refs + r))) ≡ record { ty = ty; reference = o } = ap (λ (m : Machine). w.slots (In (RegisterOf t (m.at.refs + r)))) now ∙ slot in
     let held = type_is_held x code s ls after w st t r on' (ap (λ (m : Machine). may_go m.at.state) now ∙ go) (ap (λ (m : Machine). m.own.stage) now ∙ rest) (λ z. told (sym (ap (λ (m : Machine). (ls.at m.at.pc).env r) now) ∙ z)) (λ z. nz (sym (ap (λ (h : TypedReference). h.reference) at) ∙ z)) in
     sym (ap (λ (h : TypedReference). h.ty) at) ∙ held
-  where
-    or_on : (a b : Bool) → b ≡ true → (a || b) ≡ true
-    or_on true b e = refl
-    or_on false b e = e
+
+-- with a turn that changes no object
+pub unchanged : (x : Targets) (code : Code) (s : Shape) (ls : Labels) (g : Global Machine) (world : World) (tr : Turn) → changes_objects (instr_at code (g.threads tr.thread).at.pc) (g.threads tr.thread) ≡ false
+    → Turned x code s ls g world tr → (k : Turned x code s ls g world tr) × (k.0.obj ≡ objects_now code s ls g tr world.obj)
+unchanged x code s ls g world tr c k =
+    let m = g.threads tr.thread in
+    let i = instr_at code m.at.pc in
+    (k, effect_objects (lang_of x) tr.thread (has_returned m) (changes_objects i m) world k.0 k.2 c ∙ sym (behind_same ls tr.thread i m ((after_turn bounds (one_thread code s) g tr).threads tr.thread) world.obj c))

@@ -215,6 +215,20 @@ conc_plain code g t words m' e =
     let b = n Write in
     λ i. record (conc_of code g) { words = λ i. slice_index words i; regs = put (λ u. register_of code (g.threads u)) t (register_of code m'); read_notes = a i; write_notes = b i }
 
+-- what is shown after the turn of a thread that keeps its log, what it holds staged and its notes
+pub conc_turned : (code : Code) (g : Global Machine) (t : ℕ) (words : List ℕ) (m' : Machine) → m'.own.held ≡ (g.threads t).own.held → staged_of m'.own.stage ≡ staged_of (g.threads t).own.stage
+    → ((kind : Kind) (p : ℕ) → noted_by m' kind p ≡ noted_by (g.threads t) kind p)
+    → conc_of code (made_turn g t words m') ≡ record (conc_of code g) { words = λ j. slice_index words j; regs = put (λ u. register_of code (g.threads u)) t (register_of code m'); args = argument_of code (made_turn g t words m') }
+conc_turned code g t words m' held staged notes =
+    let now = made_turn g t words m' in
+    let rs : (λ u. register_of code (now.threads u)) ≡ put (λ u. register_of code (g.threads u)) t (register_of code m') = part_put (register_of code) g.threads t m' in
+    let lo : (λ u. logged (now.threads u)) ≡ (λ u. logged (g.threads u)) = fun_ext (part_same logged g.threads t m' (fun_ext (λ w. ap (λ (h : List HeldMutex). reference_of (object_of h w)) held))) in
+    let sg : (λ u. staged_of (now.threads u).own.stage) ≡ (λ u. staged_of (g.threads u).own.stage) = fun_ext (part_same (λ m. staged_of m.own.stage) g.threads t m' staged) in
+    let nt : (kind : Kind) → (λ u. noted_by (now.threads u) kind) ≡ (λ u. noted_by (g.threads u) kind) = λ kind. fun_ext (part_same (λ m. noted_by m kind) g.threads t m' (fun_ext (notes kind))) in
+    let rd = nt Read in
+    let wr = nt Write in
+    λ i. record { words = λ j. slice_index words j; regs = rs i; args = argument_of code now; logs = lo i; staged = sg i; read_notes = rd i; write_notes = wr i }
+
 pub no_argument : (b c : Bool) (v : ℕ) → c ≡ false → cond (b && c) v 0 ≡ 0
 no_argument true c v e = ap (λ c. cond c v 0) e
 no_argument false c v e = refl

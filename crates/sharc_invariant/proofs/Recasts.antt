@@ -1,5 +1,5 @@
 -- What a cast leaves of the cells: what they are, and what they refer to.
-use Rattle.sharc_invariant.proofs.{Imports.{◌≡◌, ℕ, zero, suc, ◌+◌, ◌-◌, ◌%◌, ◌<◌, List, [], ◌∷◌, refl, sym, ap, ◌∙◌, subst, ⊎_elim, arith, cases_eq, length, map, slice_index_or, Targets, Field, ObjectType, StaticType, Mutex, FieldLock, Content, cells_of, field_at, field_in, field_of_cell, no_field, no_mutex, lock_number, mutex_of, field_mutex, type_in, type_at, type_of, is_mutex, is_pointer, OfType, OfGlobals, OfSameElement, Integer, MutexWord, Waiters, Pointer, Label, Recasts, IsSameContent, IsSameFieldLock, no_lock, FitsContent}, Frames.{same_lock, map_same}, Emptied.mod_low, Cells.field_row}
+use Rattle.sharc_invariant.proofs.{Imports.{◌≡◌, ℕ, zero, suc, ◌+◌, ◌-◌, ◌%◌, ◌<◌, List, [], ◌∷◌, refl, sym, ap, ◌∙◌, subst, ⊎_elim, arith, cases_eq, length, map, slice_index_or, Targets, Field, ObjectType, StaticType, Mutex, FieldLock, Content, cells_of, field_at, field_in, field_of_cell, no_field, no_mutex, lock_number, mutex_of, field_mutex, type_in, type_at, type_of, is_mutex, is_pointer, OfType, OfGlobals, OfSameElement, Pointer, Label, Recasts, IsSameContent, IsSameFieldLock, no_lock, FitsContent}, Frames.{same_lock, map_same}, Emptied.mod_low, Cells.field_row}
 use Rattle.sharc_invariant.specs.Types.{row_of}
 
 map_at : {A B : Type 0} (f : A → B) (xs : List A) (j : ℕ) (d : B) (e : A) → j < length xs → slice_index_or (map f xs) j d ≡ f (slice_index_or xs j e)
@@ -41,17 +41,13 @@ module _ (x : Targets) (l : Label) (refs : ℕ → ℕ) (same : (r : ℕ) → re
 
   same_type_in : (o i : ℕ) (a b : Content) → IsSameContent l r s t a b → type_in T o i b ≡ type_in S o i a
   same_type_in o i (Pointer f) (Pointer g) h = sym (ap (λ n. with_locks n (map (field_mutex S o i) f.locks)) h.0 ∙ ap (with_locks g.target) (map_same (IsSameFieldLock l r s t) (field_mutex S o i) (field_mutex T o i) (same_mutex o i) f.locks g.locks h.1))
-  same_type_in o i (Integer w) b h = ap (type_in T o i) (sym h)
-  same_type_in o i MutexWord b h = ap (type_in T o i) (sym h)
-  same_type_in o i Waiters b h = ap (type_in T o i) (sym h)
   same_type_in o i (Pointer f) _ h = absurd (cc)
+  same_type_in o i _ b h = ap (type_in T o i) (sym h)
 
   alike : (a b : Content) → IsSameContent l r s t a b → IsAlike a b
   alike (Pointer f) (Pointer g) h = record { pointer = refl; mutex = refl; fits = λ v h. h }
-  alike (Integer w) b h = subst (IsAlike (Integer w)) h (record { pointer = refl; mutex = refl; fits = λ v h. h })
-  alike MutexWord b h = subst (IsAlike MutexWord) h (record { pointer = refl; mutex = refl; fits = λ v h. h })
-  alike Waiters b h = subst (IsAlike Waiters) h (record { pointer = refl; mutex = refl; fits = λ v h. h })
   alike (Pointer f) _ h = absurd (cc)
+  alike a b h = subst (IsAlike a) h (record { pointer = refl; mutex = refl; fits = λ v h. h })
 
   abbrev Same : Field → Field → Type 0
   Same a b = IsSameContent l r s t a.holds b.holds

@@ -1,7 +1,7 @@
 -- The sample is well typed.
-use Rattle.sharc_invariant.proofs.{Imports.{◌≡◌, ℕ, pos, zero, suc, ◌+◌, ◌%◌, ◌<◌, ◌≤◌, ◌⊎◌, ◌≢◌, Bool, true, false, List, [], ◌∷◌, Some, None, refl, sym, ap, ◌∙◌, subst, inl, inr, arith, eqb-false, length, slice_index, slice_index_or, nat_eq, Code, GlobalCells, Instr, Char, Int, Long, instr_at, function_of, put, Cell, Register, put_other, put_all, FieldMode, type_in, AreTargets, ObjectType, Field, Content, CellMode, field_at, field_in, field_of_cell, global_field, mode_in, is_private, is_pointer, is_mutex, cells_of, nothing, Under, OfType, OfGlobals, OfSameElement as OfElement, Integer, MutexWord, Waiters, Pointer, Entry, Empty, Refers, Number, Anything, Exactly, Within, Gate, Closed, Checked, Holds, SoleGate as Sole, Label, Labels, Less, Leads, SameReference, Itself, IsCopy, LessEntry, EntryMentions, IsScoped, IsFree, HasBase as BaseOf, fill, empty, gated, knows, set_number, IsPlain, IsWellTyped, AreGlobals, Initial, Fine, HasCell, IsVacant, IsSameContent, MayStart, Directly, refs_in, ints_in, entry_label, the_targets, the_private, the_dynamic, the_instrs, the_labels, the_labels_list, outside, raised, w2, w4, w5, w8, w10, w13, w15, w16, w17, w19, w21, w22, w23, w24, w25, w26, m27, m28, m29, m30, m31, m32, m33, m34, given, m35, m36, m37, m38, m39, m40, m41, IsSample, StaticType}, Scoped.{less_refl, scoped_gate, scoped_room, scoped_knows, scoped_forgets, scoped_number, scoped_fill, scoped_empty}}
+use Rattle.sharc_invariant.proofs.{Imports.{◌≡◌, ℕ, pos, zero, suc, ◌+◌, ◌%◌, ◌<◌, ◌≤◌, ◌⊎◌, ◌≢◌, Bool, true, false, List, [], ◌∷◌, Some, None, refl, sym, ap, ◌∙◌, subst, inl, inr, arith, eqb-false, length, slice_index, slice_index_or, nat_eq, Code, GlobalCells, Instr, Char, Int, Long, instr_at, function_of, put, Cell, Register, put_other, put_all, FieldMode, type_in, AreTargets, ObjectType, Field, Content, CellMode, field_at, field_in, field_of_cell, global_field, mode_in, is_private, is_pointer, is_mutex, cells_of, nothing, Under, OfType, OfSameElement as OfElement, Integer, MutexWord, Pointer, Entry, Empty, Refers, Number, Anything, Exactly, Within, Closed, Checked, Holds, SoleGate as Sole, Label, Labels, Less, Leads, SameReference, Itself, IsCopy, LessEntry, EntryMentions, IsScoped, IsFree, HasBase as BaseOf, fill, empty, gated, knows, IsPlain, IsWellTyped, AreGlobals, Initial, Fine, HasCell, IsVacant, IsSameContent, MayStart, Directly, refs_in, ints_in, entry_label, the_targets, the_private, the_dynamic, the_instrs, the_labels, the_labels_list, outside, raised, w2, w4, w5, w8, w10, w13, w15, w16, w17, w19, w21, w22, w23, w24, w25, w26, m27, m28, m29, m30, m31, m32, m33, m34, given, m35, m36, m37, m38, m39, m40, m41, IsSample, StaticType}, Scoped.{less_refl, scoped_gate, scoped_room, scoped_knows, scoped_forgets, scoped_number, scoped_fill, scoped_empty}}
 use Rattle.sharc_code.specs.declared.instr.Instr.TheVariants.{Return, Lock}
-use Rattle.sharc_invariant.specs.{Types.row_of, Types.FieldMode.{Private, Readonly, Racy, Dynamic, Behind}}
+use Rattle.sharc_invariant.specs.{Types.row_of, Types.FieldMode.{Private, Racy, Dynamic, Behind}}
 
 -- ---- no type has a lock
 abbrev Lockless : (ℕ → Entry) → Type 0
@@ -47,126 +47,6 @@ first_sound ints refs l few k es ek ei ep = record {
     numbers = λ i _. ap (λ (f : ℕ → Number). f i) ei;
   };
 }
-
-s2 : Sound 1 3 w2
-s2 = first_sound 1 3 w2 (λ r le. put_other E0 0 r (Refers the_dynamic) (λ e. omega arith)) (put_lockless E0 0 (Refers the_dynamic) (λ r h. h) nobody) refl refl refl refl
-
-s3 : Sound 1 3 (raised w2 1 0)
-s3 = filled 1 3 w2 1 the_dynamic (w2.same 0) (w2.known 0) (omega arith) (λ q h. h) (inr (λ e. cc)) s2
-
-s4 : Sound 1 3 w4
-s4 = also (scoped_knows 1 3 (raised w2 1 0) 1 (λ e. cc)) refl s3
-
-s5 : Sound 1 3 w5
-s5 = also (scoped_number 1 3 w4 0 (Exactly (pos 1)) (omega arith) (λ b h. absurd h)) refl s4
-
-s6 : Sound 1 3 (gated w5 (Checked true (Cell.Object 1 2)))
-s6 = also (scoped_gate 1 3 w5 (Checked true (Cell.Object 1 2))) refl s5
-
-s7 : Sound 1 3 (gated (gated w5 (Checked true (Cell.Object 1 2))) Closed)
-s7 = also (scoped_gate 1 3 (gated w5 (Checked true (Cell.Object 1 2))) Closed) refl s6
-
-s8 : Sound 1 3 w8
-s8 = emptied 1 3 (gated (gated w5 (Checked true (Cell.Object 1 2))) Closed) 1 s7
-
-s9 : Sound 1 3 (raised w8 1 0)
-s9 = filled 1 3 w8 1 the_dynamic (w8.same 0) (w8.known 0) (omega arith) (λ q h. h) (inr (λ e. cc)) s8
-
-s10 : Sound 1 3 w10
-s10 = also (scoped_knows 1 3 (raised w8 1 0) 1 (λ e. cc)) refl s9
-
-s12 : Sound 1 3 (record w10 { room = true })
-s12 = also (scoped_room 1 3 w10 true) refl s10
-
-s13 : Sound 1 3 w13
-s13 = also (scoped_room 1 3 (empty (record w10 { room = true }) 1) false) refl (emptied 1 3 (record w10 { room = true }) 1 s12)
-
-s14 : Sound 1 3 (raised w13 1 0)
-s14 = filled 1 3 w13 1 the_dynamic (w13.same 0) (w13.known 0) (omega arith) (λ q h. h) (inr (λ e. cc)) s13
-
-s15 : Sound 1 3 w15
-s15 = also (scoped_knows 1 3 (raised w13 1 0) 1 (λ e. cc)) refl s14
-
-s16 : Sound 1 3 w16
-s16 = also (scoped_number 1 3 w15 0 (Exactly (pos 2)) (omega arith) (λ b h. absurd h)) refl s15
-
-s17 : Sound 1 3 w17
-s17 = also (scoped_gate 1 3 (knows w16 1) (Holds (Cell.Object 1 0))) refl (also (scoped_knows 1 3 w16 1 (λ e. cc)) refl s16)
-
-s18 : Sound 1 3 (gated w17 Closed)
-s18 = also (scoped_gate 1 3 w17 Closed) refl s17
-
-s19 : Sound 1 3 w19
-s19 = emptied 1 3 (gated w17 Closed) 1 s18
-
-s20 : Sound 1 3 (raised w19 1 0)
-s20 = filled 1 3 w19 1 the_dynamic (w19.same 0) (w19.known 0) (omega arith) (λ q h. h) (inr (λ e. cc)) s19
-
-s21 : Sound 1 3 w21
-s21 = also (scoped_knows 1 3 (raised w19 1 0) 1 (λ e. cc)) refl s20
-
-s22 : Sound 1 3 w22
-s22 = also (scoped_gate 1 3 w21 (Holds (Cell.Object 1 0))) refl s21
-
-s23 : Sound 1 3 w23
-s23 = also (scoped_room 1 3 (fill w22 2 (w22.env 1) (w22.same 1) true) true) refl (filled 1 3 w22 2 the_dynamic (w22.same 1) true (omega arith) (λ q h. h) (inr (λ e. cc)) s22)
-
-s24 : Sound 1 3 w24
-s24 = emptied 1 3 w23 2 s23
-
-s25 : Sound 1 3 w25
-s25 = emptied 1 3 w24 1 s24
-
-s26 : Sound 1 3 w26
-s26 = emptied 1 3 w25 0 s25
-
-s27 : Sound 2 3 m27
-s27 = first_sound 2 3 m27 (λ r le. refl) nobody refl refl refl refl
-
-s28 : Sound 2 3 m28
-s28 = also (scoped_number 2 3 m27 0 (Exactly (pos 1)) (omega arith) (λ b h. absurd h)) refl s27
-
-s29 : Sound 2 3 m29
-s29 = filled 2 3 m28 2 the_private 2 true (omega arith) (λ q h. h) (inl refl) s28
-
-s30 : Sound 2 3 m30
-s30 = filled 2 3 (empty m29 2) 0 the_private 0 true (omega arith) (λ q h. h) (inl refl) (emptied 2 3 m29 2 s29)
-
-s31 : Sound 2 3 m31
-s31 = filled 2 3 (empty m30 0) 2 the_private 2 true (omega arith) (λ q h. h) (inl refl) (emptied 2 3 m30 0 s30)
-
-s32 : Sound 2 3 m32
-s32 = also (scoped_knows 2 3 m31 2 (λ e. cc)) refl s31
-
-s33 : Sound 2 3 m33
-s33 = also (scoped_gate 2 3 m32 (Sole 2 false)) refl s32
-
-s34 : Sound 2 3 m34
-s34 = also (scoped_gate 2 3 m33 (Sole 2 true)) refl s33
-
-sg : Sound 2 3 given
-sg = filled 2 3 (empty m34 2) 2 the_dynamic 2 true (omega arith) (λ q h. h) (inl refl) (emptied 2 3 m34 2 s34)
-
-s35 : Sound 2 3 m35
-s35 = also (scoped_forgets 2 3 given 2) refl sg
-
-s36 : Sound 2 3 m36
-s36 = filled 2 3 (empty m35 2) 1 the_dynamic 1 false (omega arith) (λ q h. h) (inl refl) (emptied 2 3 m35 2 s35)
-
-s37 : Sound 2 3 m37
-s37 = filled 2 3 m36 2 the_dynamic (m36.same 1) (m36.known 1) (omega arith) (λ q h. h) (inr (λ e. cc)) s36
-
-s38 : Sound 2 3 m38
-s38 = also (scoped_number 2 3 (empty m37 2) 1 (Within Char) (omega arith) (λ b h. absurd h)) refl (emptied 2 3 m37 2 s37)
-
-s39 : Sound 2 3 m39
-s39 = emptied 2 3 m38 1 s38
-
-s40 : Sound 2 3 m40
-s40 = emptied 2 3 m39 0 s39
-
-s41 : Sound 2 3 m41
-s41 = also (scoped_number 2 3 m40 0 (Exactly (pos 0)) (omega arith) (λ b h. absurd h)) refl s40
 
 abbrev is_behind : FieldMode → Bool
 is_behind (Behind f p) = true
@@ -227,15 +107,15 @@ recast_same : (field : ℕ) → field < 3 → IsSameContent m34 2 the_private th
 recast_same (suc (suc (suc n))) lt = absurd (omega arith)
 recast_same _ lt = refl
 
-gone26 : (r : ℕ) → r ≢ 0 → w26.env r ≡ Empty
-gone26 zero ne = absurd (ne refl)
-gone26 (suc (suc (suc n))) ne = s26.scoped.few (suc (suc (suc n))) (omega arith)
-gone26 _ ne = refl
+gone26 : Sound 1 3 w26 → (r : ℕ) → r ≢ 0 → w26.env r ≡ Empty
+gone26 h zero ne = absurd (ne refl)
+gone26 h (suc (suc (suc n))) ne = h.scoped.few (suc (suc (suc n))) (omega arith)
+gone26 h _ ne = refl
 
-gone41 : (r : ℕ) → r ≢ 0 → m41.env r ≡ Empty
-gone41 zero ne = absurd (ne refl)
-gone41 (suc (suc (suc n))) ne = s41.scoped.few (suc (suc (suc n))) (omega arith)
-gone41 _ ne = refl
+gone41 : Sound 2 3 m41 → (r : ℕ) → r ≢ 0 → m41.env r ≡ Empty
+gone41 h zero ne = absurd (ne refl)
+gone41 h (suc (suc (suc n))) ne = h.scoped.few (suc (suc (suc n))) (omega arith)
+gone41 h _ ne = refl
 
 no_pointer : (field : ℕ) → is_pointer (field_at the_targets 1 field).holds ≡ false
 no_pointer (suc (suc (suc n))) = refl
@@ -288,129 +168,90 @@ module _ (code : Code) (is : IsSample code) where
   m : (pc : ℕ) (l : Label) (i : Instr) → l.function ≡ Some 0 → Fine the_targets code the_labels pc l i → Sound 2 3 l → Right pc l i
   m pc l i e f h = (f, in_m l e h.scoped, λ z. absurd (let q : Some 0 ≡ None = sym e ∙ z in cc))
 
-  p2 : Right 2 w2 (Instr.Raise 1 0)
-  p2 = w 2 w2 (Instr.Raise 1 0) refl (refl, vacant w2 1 (sym refs_w) (omega arith) refl, (let b = refs_w in omega arith), less_refl (raised w2 1 0)) s2
-
-  p3 : Right 3 (raised w2 1 0) (Instr.ChkNull 1 0)
-  p3 = w 3 (raised w2 1 0) (Instr.ChkNull 1 0) refl (refl, less_refl w4) s3
-
-  p4 : Right 4 w4 (Instr.Constant 0 (pos 1))
-  p4 = w 4 w4 (Instr.Constant 0 (pos 1)) refl (refl, (let b = ints_w in omega arith), less_refl w5) s4
-
-  p5 : Right 5 w5 (Instr.ChkWrite (Cell.Object 1 2) 1)
-  p5 = w 5 w5 (Instr.ChkWrite (Cell.Object 1 2) 1) refl (refl, (f_dynamic, (has_cell w5 2 f_dynamic refl refl refl (omega arith) refl), refl), inl (less_refl (gated w5 (Checked true (Cell.Object 1 2))))) s5
-
-  p6 : Right 6 (gated w5 (Checked true (Cell.Object 1 2))) (Instr.Store 0 (Cell.Object 1 2) 1)
-  p6 = w 6 (gated w5 (Checked true (Cell.Object 1 2))) (Instr.Store 0 (Cell.Object 1 2) 1) refl (f_dynamic, Int, record { cell = (has_cell (gated w5 (Checked true (Cell.Object 1 2))) 2 f_dynamic refl refl refl (omega arith) refl); may = Directly true refl tt; apart = tt; mode = is.sites.0 }, refl, refl, less_refl (gated (gated w5 (Checked true (Cell.Object 1 2))) Closed)) s6
-
-  p7 : Right 7 (gated (gated w5 (Checked true (Cell.Object 1 2))) Closed) (Instr.Lower 1)
-  p7 = w 7 (gated (gated w5 (Checked true (Cell.Object 1 2))) Closed) (Instr.Lower 1) refl (refl, (let b = refs_w in omega arith), inl (free_by (gated (gated w5 (Checked true (Cell.Object 1 2))) Closed) 1 s7.free, less_refl w8)) s7
-
-  p8 : Right 8 w8 (Instr.Raise 1 0)
-  p8 = w 8 w8 (Instr.Raise 1 0) refl (refl, vacant w8 1 (sym refs_w) (omega arith) refl, (let b = refs_w in omega arith), less_refl (raised w8 1 0)) s8
-
-  p9 : Right 9 (raised w8 1 0) (Instr.ChkNull 1 0)
-  p9 = w 9 (raised w8 1 0) (Instr.ChkNull 1 0) refl (refl, less_refl w10) s9
-
-  p10 : Right 10 w10 (Instr.ChkNotHeld (Cell.Object 1 0) 0)
-  p10 = w 10 w10 (Instr.ChkNotHeld (Cell.Object 1 0) 0) refl (refl, (f_mutex, (has_cell w10 0 f_mutex refl refl refl (omega arith) refl), refl), less_refl w10) s10
-
-  p11 : Right 11 w10 (Instr.ChkRoom 0)
-  p11 = w 11 w10 (Instr.ChkRoom 0) refl (refl, less_refl (record w10 { room = true })) s10
-
-  p12 : Right 12 (record w10 { room = true }) (Lock (Cell.Object 1 0) 0)
-  p12 = w 12 (record w10 { room = true }) (Lock (Cell.Object 1 0) 0) refl (refl, refl, (f_mutex, (has_cell (record w10 { room = true }) 0 f_mutex refl refl refl (omega arith) refl), refl), free_by (record w10 { room = true }) 1 s12.free, less_refl w13) s12
-
-  p13 : Right 13 w13 (Instr.Raise 1 0)
-  p13 = w 13 w13 (Instr.Raise 1 0) refl (refl, vacant w13 1 (sym refs_w) (omega arith) refl, (let b = refs_w in omega arith), less_refl (raised w13 1 0)) s13
-
-  p14 : Right 14 (raised w13 1 0) (Instr.ChkNull 1 0)
-  p14 = w 14 (raised w13 1 0) (Instr.ChkNull 1 0) refl (refl, less_refl w15) s14
-
-  p15 : Right 15 w15 (Instr.Constant 0 (pos 2))
-  p15 = w 15 w15 (Instr.Constant 0 (pos 2)) refl (refl, (let b = ints_w in omega arith), less_refl w16) s15
-
-  p16 : Right 16 w16 (Instr.ChkLock (Cell.Object 1 0) 2)
-  p16 = w 16 w16 (Instr.ChkLock (Cell.Object 1 0) 2) refl (refl, (f_mutex, (has_cell w16 0 f_mutex refl refl refl (omega arith) refl).field, refl), less_refl w17) s16
-
-  p17 : Right 17 w17 (Instr.Store 0 (Cell.Object 1 1) 2)
-  p17 = w 17 w17 (Instr.Store 0 (Cell.Object 1 1) 2) refl (f_locked, Int, record { cell = (has_cell w17 1 f_locked refl refl refl (omega arith) refl); may = (Cell.Object 1 0, f_mutex, refl, (has_cell w17 0 f_mutex refl refl refl (omega arith) refl), refl, (Itself refl, omega arith, omega arith)); apart = tt; mode = (is.sites.1, tt) }, refl, refl, less_refl (gated w17 Closed)) s17
-
-  p18 : Right 18 (gated w17 Closed) (Instr.Lower 1)
-  p18 = w 18 (gated w17 Closed) (Instr.Lower 1) refl (refl, (let b = refs_w in omega arith), inl (free_by (gated w17 Closed) 1 s18.free, less_refl w19)) s18
-
-  p19 : Right 19 w19 (Instr.Raise 1 0)
-  p19 = w 19 w19 (Instr.Raise 1 0) refl (refl, vacant w19 1 (sym refs_w) (omega arith) refl, (let b = refs_w in omega arith), less_refl (raised w19 1 0)) s19
-
-  p20 : Right 20 (raised w19 1 0) (Instr.ChkNull 1 0)
-  p20 = w 20 (raised w19 1 0) (Instr.ChkNull 1 0) refl (refl, less_refl w21) s20
-
-  p21 : Right 21 w21 (Instr.ChkHeld (Cell.Object 1 0) 0)
-  p21 = w 21 w21 (Instr.ChkHeld (Cell.Object 1 0) 0) refl (refl, (f_mutex, (has_cell w21 0 f_mutex refl refl refl (omega arith) refl), refl), less_refl w22) s21
-
-  p22 : Right 22 w22 (Instr.Unlock 2 (Cell.Object 1 0) 0)
-  p22 = w 22 w22 (Instr.Unlock 2 (Cell.Object 1 0) 0) refl (refl, vacant w22 2 (sym refs_w) (omega arith) refl, (f_mutex, (has_cell w22 0 f_mutex refl refl refl (omega arith) refl), refl), less_refl w23) s22
-
-  p23 : Right 23 w23 (Instr.Lower 2)
-  p23 = w 23 w23 (Instr.Lower 2) refl (refl, (let b = refs_w in omega arith), inl (free_by w23 2 s23.free, less_refl w24)) s23
-
-  p24 : Right 24 w24 (Instr.Lower 1)
-  p24 = w 24 w24 (Instr.Lower 1) refl (refl, (let b = refs_w in omega arith), inl (free_by w24 1 s24.free, less_refl w25)) s24
-
-  p25 : Right 25 w25 (Instr.Lower 0)
-  p25 = w 25 w25 (Instr.Lower 0) refl (refl, (let b = refs_w in omega arith), inl (free_by w25 0 s25.free, less_refl w26)) s25
-
-  p26 : Right 26 w26 (Return 0)
-  p26 = w 26 w26 (Return 0) refl (refl, (1, refl, record { result = refl; result_int = tt; empty = gone26 })) s26
-
-  p27 : Right 27 m27 (Instr.Constant 0 (pos 1))
-  p27 = m 27 m27 (Instr.Constant 0 (pos 1)) refl (refl, (let b = ints_m in omega arith), less_refl m28) s27
-
-  p28 : Right 28 m28 (Instr.New 2 0 3 0)
-  p28 = m 28 m28 (Instr.New 2 0 3 0) refl (refl, vacant m28 2 (sym refs_m) (omega arith) refl, (the_private, (λ e. omega arith), omega arith, refl, omega arith, (λ i. no_pointer (i % cells_of the_targets 1)), (λ h. h), less_refl m29)) s28
-
-  p29 : Right 29 m29 (Instr.MoveReference 0 2)
-  p29 = m 29 m29 (Instr.MoveReference 0 2) refl (refl, inr (vacant m29 0 (sym refs_m) (omega arith) refl, (let b = refs_m in omega arith), (λ e. omega arith), free_by m29 2 s29.free, (λ h. h), less_refl m30)) s29
-
-  p30 : Right 30 m30 (Instr.TakeLocal 2 0 0)
-  p30 = m 30 m30 (Instr.TakeLocal 2 0 0) refl (refl, vacant m30 2 (sym refs_m) (omega arith) refl, (let b = refs_m in omega arith), (λ e. omega arith), free_by m30 0 s30.free, (λ h. h), less_refl m31) s30
-
-  p31 : Right 31 m31 (Instr.JumpIfNull 2 35)
-  p31 = m 31 m31 (Instr.JumpIfNull 2 35) refl (refl, inr (free_by m31 2 s31.free, null_less), less_refl m32) s31
-
-  p32 : Right 32 m32 (Instr.TestSole 2 0)
-  p32 = m 32 m32 (Instr.TestSole 2 0) refl (refl, (let b = refs_m in omega arith), refl, less_refl m33) s32
-
-  p33 : Right 33 m33 (Instr.Clear 2 3)
-  p33 = m 33 m33 (Instr.Clear 2 3) refl (refl, (λ p h e. absurd h), (the_private, refl, refl, less_refl m34)) s33
-
-  p34 : Right 34 m34 (Instr.Give 2 0)
-  p34 = m 34 m34 (Instr.Give 2 0) refl (refl, free_by m34 2 s34.free, (the_private, the_dynamic, refl, record { some = λ e. omega arith; is_row = omega arith; cells = refl; same = recast_same }, (λ h. h), given_less)) s34
-
-  p35 : Right 35 m35 (Instr.MoveReference 1 2)
-  p35 = m 35 m35 (Instr.MoveReference 1 2) refl (refl, inr (vacant m35 1 (sym refs_m) (omega arith) refl, (let b = refs_m in omega arith), (λ e. omega arith), free_by m35 2 s35.free, (λ h. h), less_refl m36)) s35
-
-  p36 : Right 36 m36 (Instr.Raise 2 1)
-  p36 = m 36 m36 (Instr.Raise 2 1) refl (refl, vacant m36 2 (sym refs_m) (omega arith) refl, (let b = refs_m in omega arith), less_refl m37) s36
-
-  p37 : Right 37 m37 (Instr.Spawn 1 1 (Register.Reference 2) 0)
-  p37 = m 37 m37 (Instr.Spawn 1 1 (Register.Reference 2) 0) refl (refl, (let b = ints_m in omega arith), (let b = is.number in omega arith), refl, refl, (is.parameters.1, (let b = refs_m in omega arith), free_by m37 2 s37.free, (λ q h. h), (refl, tt), refl), less_refl m38) s37
-
-  p38 : Right 38 m38 (Instr.Lower 1)
-  p38 = m 38 m38 (Instr.Lower 1) refl (refl, (let b = refs_m in omega arith), inl (free_by m38 1 s38.free, less_refl m39)) s38
-
-  p39 : Right 39 m39 (Instr.Lower 0)
-  p39 = m 39 m39 (Instr.Lower 0) refl (refl, (let b = refs_m in omega arith), inl (free_by m39 0 s39.free, less_refl m40)) s39
-
-  p40 : Right 40 m40 (Instr.Constant 0 (pos 0))
-  p40 = m 40 m40 (Instr.Constant 0 (pos 0)) refl (refl, (let b = ints_m in omega arith), less_refl m41) s40
-
-  p41 : Right 41 m41 (Return 0)
-  p41 = m 41 m41 (Return 0) refl (refl, (0, refl, record { result = refl; result_int = tt; empty = gone41 })) s41
-
   places : EachAt Right 0 the_labels_list the_instrs
   unfolding EachAt
-  places = (((refl, refl, less_refl outside), out, λ _. inl refl), (((refl, refl, refl), out, λ _. inr refl), (p2, (p3, (p4, (p5, (p6, (p7, (p8, (p9, (p10, (p11, (p12, (p13, (p14, (p15, (p16, (p17, (p18, (p19, (p20, (p21, (p22, (p23, (p24, (p25, (p26, (p27, (p28, (p29, (p30, (p31, (p32, (p33, (p34, (p35, (p36, (p37, (p38, (p39, (p40, (p41, tt))))))))))))))))))))))))))))))))))))))))))
+  places =
+      let s2 = first_sound 1 3 w2 (λ r le. put_other E0 0 r (Refers the_dynamic) (λ e. omega arith)) (put_lockless E0 0 (Refers the_dynamic) (λ r h. h) nobody) refl refl refl refl in
+      let p2 = w 2 w2 (Instr.Raise 1 0) refl (refl, vacant w2 1 (sym refs_w) (omega arith) refl, (let b = refs_w in omega arith), less_refl (raised w2 1 0)) s2 in
+      let s3 = filled 1 3 w2 1 the_dynamic (w2.same 0) (w2.known 0) (omega arith) (λ q h. h) (inr (λ e. cc)) s2 in
+      let p3 = w 3 (raised w2 1 0) (Instr.ChkNull 1 0) refl (refl, less_refl w4) s3 in
+      let s4 = also (scoped_knows 1 3 (raised w2 1 0) 1 (λ e. cc)) refl s3 in
+      let p4 = w 4 w4 (Instr.Constant 0 (pos 1)) refl (refl, (let b = ints_w in omega arith), less_refl w5) s4 in
+      let s5 = also (scoped_number 1 3 w4 0 (Exactly (pos 1)) (omega arith) (λ b h. absurd h)) refl s4 in
+      let p5 = w 5 w5 (Instr.ChkWrite (Cell.Object 1 2) 1) refl (refl, (f_dynamic, (has_cell w5 2 f_dynamic refl refl refl (omega arith) refl), refl), inl (less_refl (gated w5 (Checked true (Cell.Object 1 2))))) s5 in
+      let s6 = also (scoped_gate 1 3 w5 (Checked true (Cell.Object 1 2))) refl s5 in
+      let p6 = w 6 (gated w5 (Checked true (Cell.Object 1 2))) (Instr.Store 0 (Cell.Object 1 2) 1) refl (f_dynamic, Int, record { cell = (has_cell (gated w5 (Checked true (Cell.Object 1 2))) 2 f_dynamic refl refl refl (omega arith) refl); may = Directly true refl tt; apart = tt; mode = is.sites.0 }, refl, refl, less_refl (gated (gated w5 (Checked true (Cell.Object 1 2))) Closed)) s6 in
+      let s7 = also (scoped_gate 1 3 (gated w5 (Checked true (Cell.Object 1 2))) Closed) refl s6 in
+      let p7 = w 7 (gated (gated w5 (Checked true (Cell.Object 1 2))) Closed) (Instr.Lower 1) refl (refl, (let b = refs_w in omega arith), inl (free_by (gated (gated w5 (Checked true (Cell.Object 1 2))) Closed) 1 s7.free, less_refl w8)) s7 in
+      let s8 = emptied 1 3 (gated (gated w5 (Checked true (Cell.Object 1 2))) Closed) 1 s7 in
+      let p8 = w 8 w8 (Instr.Raise 1 0) refl (refl, vacant w8 1 (sym refs_w) (omega arith) refl, (let b = refs_w in omega arith), less_refl (raised w8 1 0)) s8 in
+      let s9 = filled 1 3 w8 1 the_dynamic (w8.same 0) (w8.known 0) (omega arith) (λ q h. h) (inr (λ e. cc)) s8 in
+      let p9 = w 9 (raised w8 1 0) (Instr.ChkNull 1 0) refl (refl, less_refl w10) s9 in
+      let s10 = also (scoped_knows 1 3 (raised w8 1 0) 1 (λ e. cc)) refl s9 in
+      let p10 = w 10 w10 (Instr.ChkNotHeld (Cell.Object 1 0) 0) refl (refl, (f_mutex, (has_cell w10 0 f_mutex refl refl refl (omega arith) refl), refl), less_refl w10) s10 in
+      let p11 = w 11 w10 (Instr.ChkRoom 0) refl (refl, less_refl (record w10 { room = true })) s10 in
+      let s12 = also (scoped_room 1 3 w10 true) refl s10 in
+      let p12 = w 12 (record w10 { room = true }) (Lock (Cell.Object 1 0) 0) refl (refl, refl, (f_mutex, (has_cell (record w10 { room = true }) 0 f_mutex refl refl refl (omega arith) refl), refl), free_by (record w10 { room = true }) 1 s12.free, less_refl w13) s12 in
+      let s13 = also (scoped_room 1 3 (empty (record w10 { room = true }) 1) false) refl (emptied 1 3 (record w10 { room = true }) 1 s12) in
+      let p13 = w 13 w13 (Instr.Raise 1 0) refl (refl, vacant w13 1 (sym refs_w) (omega arith) refl, (let b = refs_w in omega arith), less_refl (raised w13 1 0)) s13 in
+      let s14 = filled 1 3 w13 1 the_dynamic (w13.same 0) (w13.known 0) (omega arith) (λ q h. h) (inr (λ e. cc)) s13 in
+      let p14 = w 14 (raised w13 1 0) (Instr.ChkNull 1 0) refl (refl, less_refl w15) s14 in
+      let s15 = also (scoped_knows 1 3 (raised w13 1 0) 1 (λ e. cc)) refl s14 in
+      let p15 = w 15 w15 (Instr.Constant 0 (pos 2)) refl (refl, (let b = ints_w in omega arith), less_refl w16) s15 in
+      let s16 = also (scoped_number 1 3 w15 0 (Exactly (pos 2)) (omega arith) (λ b h. absurd h)) refl s15 in
+      let p16 = w 16 w16 (Instr.ChkLock (Cell.Object 1 0) 2) refl (refl, (f_mutex, (has_cell w16 0 f_mutex refl refl refl (omega arith) refl).field, refl), less_refl w17) s16 in
+      let s17 = also (scoped_gate 1 3 (knows w16 1) (Holds (Cell.Object 1 0))) refl (also (scoped_knows 1 3 w16 1 (λ e. cc)) refl s16) in
+      let p17 = w 17 w17 (Instr.Store 0 (Cell.Object 1 1) 2) refl (f_locked, Int, record { cell = (has_cell w17 1 f_locked refl refl refl (omega arith) refl); may = (Cell.Object 1 0, f_mutex, refl, (has_cell w17 0 f_mutex refl refl refl (omega arith) refl), refl, (Itself refl, omega arith, omega arith)); apart = tt; mode = (is.sites.1, tt) }, refl, refl, less_refl (gated w17 Closed)) s17 in
+      let s18 = also (scoped_gate 1 3 w17 Closed) refl s17 in
+      let p18 = w 18 (gated w17 Closed) (Instr.Lower 1) refl (refl, (let b = refs_w in omega arith), inl (free_by (gated w17 Closed) 1 s18.free, less_refl w19)) s18 in
+      let s19 = emptied 1 3 (gated w17 Closed) 1 s18 in
+      let p19 = w 19 w19 (Instr.Raise 1 0) refl (refl, vacant w19 1 (sym refs_w) (omega arith) refl, (let b = refs_w in omega arith), less_refl (raised w19 1 0)) s19 in
+      let s20 = filled 1 3 w19 1 the_dynamic (w19.same 0) (w19.known 0) (omega arith) (λ q h. h) (inr (λ e. cc)) s19 in
+      let p20 = w 20 (raised w19 1 0) (Instr.ChkNull 1 0) refl (refl, less_refl w21) s20 in
+      let s21 = also (scoped_knows 1 3 (raised w19 1 0) 1 (λ e. cc)) refl s20 in
+      let p21 = w 21 w21 (Instr.ChkHeld (Cell.Object 1 0) 0) refl (refl, (f_mutex, (has_cell w21 0 f_mutex refl refl refl (omega arith) refl), refl), less_refl w22) s21 in
+      let s22 = also (scoped_gate 1 3 w21 (Holds (Cell.Object 1 0))) refl s21 in
+      let p22 = w 22 w22 (Instr.Unlock 2 (Cell.Object 1 0) 0) refl (refl, vacant w22 2 (sym refs_w) (omega arith) refl, (f_mutex, (has_cell w22 0 f_mutex refl refl refl (omega arith) refl), refl), less_refl w23) s22 in
+      let s23 = also (scoped_room 1 3 (fill w22 2 (w22.env 1) (w22.same 1) true) true) refl (filled 1 3 w22 2 the_dynamic (w22.same 1) true (omega arith) (λ q h. h) (inr (λ e. cc)) s22) in
+      let p23 = w 23 w23 (Instr.Lower 2) refl (refl, (let b = refs_w in omega arith), inl (free_by w23 2 s23.free, less_refl w24)) s23 in
+      let s24 = emptied 1 3 w23 2 s23 in
+      let p24 = w 24 w24 (Instr.Lower 1) refl (refl, (let b = refs_w in omega arith), inl (free_by w24 1 s24.free, less_refl w25)) s24 in
+      let s25 = emptied 1 3 w24 1 s24 in
+      let p25 = w 25 w25 (Instr.Lower 0) refl (refl, (let b = refs_w in omega arith), inl (free_by w25 0 s25.free, less_refl w26)) s25 in
+      let s26 = emptied 1 3 w25 0 s25 in
+      let p26 = w 26 w26 (Return 0) refl (refl, (1, refl, record { result = refl; result_int = tt; empty = gone26 s26 })) s26 in
+      let s27 = first_sound 2 3 m27 (λ r le. refl) nobody refl refl refl refl in
+      let p27 = m 27 m27 (Instr.Constant 0 (pos 1)) refl (refl, (let b = ints_m in omega arith), less_refl m28) s27 in
+      let s28 = also (scoped_number 2 3 m27 0 (Exactly (pos 1)) (omega arith) (λ b h. absurd h)) refl s27 in
+      let p28 = m 28 m28 (Instr.New 2 0 3 0) refl (refl, vacant m28 2 (sym refs_m) (omega arith) refl, (the_private, (λ e. omega arith), omega arith, refl, omega arith, (λ i. no_pointer (i % cells_of the_targets 1)), (λ h. h), less_refl m29)) s28 in
+      let s29 = filled 2 3 m28 2 the_private 2 true (omega arith) (λ q h. h) (inl refl) s28 in
+      let p29 = m 29 m29 (Instr.MoveReference 0 2) refl (refl, inr (vacant m29 0 (sym refs_m) (omega arith) refl, (let b = refs_m in omega arith), (λ e. omega arith), free_by m29 2 s29.free, (λ h. h), less_refl m30)) s29 in
+      let s30 = filled 2 3 (empty m29 2) 0 the_private 0 true (omega arith) (λ q h. h) (inl refl) (emptied 2 3 m29 2 s29) in
+      let p30 = m 30 m30 (Instr.TakeLocal 2 0 0) refl (refl, vacant m30 2 (sym refs_m) (omega arith) refl, (let b = refs_m in omega arith), (λ e. omega arith), free_by m30 0 s30.free, (λ h. h), less_refl m31) s30 in
+      let s31 = filled 2 3 (empty m30 0) 2 the_private 2 true (omega arith) (λ q h. h) (inl refl) (emptied 2 3 m30 0 s30) in
+      let p31 = m 31 m31 (Instr.JumpIfNull 2 35) refl (refl, inr (free_by m31 2 s31.free, null_less), less_refl m32) s31 in
+      let s32 = also (scoped_knows 2 3 m31 2 (λ e. cc)) refl s31 in
+      let p32 = m 32 m32 (Instr.TestSole 2 0) refl (refl, (let b = refs_m in omega arith), refl, less_refl m33) s32 in
+      let s33 = also (scoped_gate 2 3 m32 (Sole 2 false)) refl s32 in
+      let p33 = m 33 m33 (Instr.Clear 2 3) refl (refl, (λ p h e. absurd h), (the_private, refl, refl, less_refl m34)) s33 in
+      let s34 = also (scoped_gate 2 3 m33 (Sole 2 true)) refl s33 in
+      let p34 = m 34 m34 (Instr.Give 2 0) refl (refl, free_by m34 2 s34.free, (the_private, the_dynamic, refl, record { some = λ e. omega arith; is_row = omega arith; cells = refl; same = recast_same }, (λ h. h), given_less)) s34 in
+      let sg = filled 2 3 (empty m34 2) 2 the_dynamic 2 true (omega arith) (λ q h. h) (inl refl) (emptied 2 3 m34 2 s34) in
+      let s35 = also (scoped_forgets 2 3 given 2) refl sg in
+      let p35 = m 35 m35 (Instr.MoveReference 1 2) refl (refl, inr (vacant m35 1 (sym refs_m) (omega arith) refl, (let b = refs_m in omega arith), (λ e. omega arith), free_by m35 2 s35.free, (λ h. h), less_refl m36)) s35 in
+      let s36 = filled 2 3 (empty m35 2) 1 the_dynamic 1 false (omega arith) (λ q h. h) (inl refl) (emptied 2 3 m35 2 s35) in
+      let p36 = m 36 m36 (Instr.Raise 2 1) refl (refl, vacant m36 2 (sym refs_m) (omega arith) refl, (let b = refs_m in omega arith), less_refl m37) s36 in
+      let s37 = filled 2 3 m36 2 the_dynamic (m36.same 1) (m36.known 1) (omega arith) (λ q h. h) (inr (λ e. cc)) s36 in
+      let p37 = m 37 m37 (Instr.Spawn 1 1 (Register.Reference 2) 0) refl (refl, (let b = ints_m in omega arith), (let b = is.number in omega arith), refl, refl, (is.parameters.1, (let b = refs_m in omega arith), free_by m37 2 s37.free, (λ q h. h), (refl, tt), refl), less_refl m38) s37 in
+      let s38 = also (scoped_number 2 3 (empty m37 2) 1 (Within Char) (omega arith) (λ b h. absurd h)) refl (emptied 2 3 m37 2 s37) in
+      let p38 = m 38 m38 (Instr.Lower 1) refl (refl, (let b = refs_m in omega arith), inl (free_by m38 1 s38.free, less_refl m39)) s38 in
+      let s39 = emptied 2 3 m38 1 s38 in
+      let p39 = m 39 m39 (Instr.Lower 0) refl (refl, (let b = refs_m in omega arith), inl (free_by m39 0 s39.free, less_refl m40)) s39 in
+      let s40 = emptied 2 3 m39 0 s39 in
+      let p40 = m 40 m40 (Instr.Constant 0 (pos 0)) refl (refl, (let b = ints_m in omega arith), less_refl m41) s40 in
+      let s41 = also (scoped_number 2 3 m40 0 (Exactly (pos 0)) (omega arith) (λ b h. absurd h)) refl s40 in
+      let p41 = m 41 m41 (Return 0) refl (refl, (0, refl, record { result = refl; result_int = tt; empty = gone41 s41 })) s41 in
+      (((refl, refl, less_refl outside), out, λ _. inl refl), (((refl, refl, refl), out, λ _. inr refl), (p2, (p3, (p4, (p5, (p6, (p7, (p8, (p9, (p10, (p11, (p12, (p13, (p14, (p15, (p16, (p17, (p18, (p19, (p20, (p21, (p22, (p23, (p24, (p25, (p26, (p27, (p28, (p29, (p30, (p31, (p32, (p33, (p34, (p35, (p36, (p37, (p38, (p39, (p40, (p41, tt))))))))))))))))))))))))))))))))))))))))))
 
   all_places : (pc : ℕ) → Right pc (the_labels.at pc) (instr_at code pc)
   all_places pc = subst (λ instrs. Right pc (the_labels.at pc) (slice_index_or instrs pc Instr.Exit)) (sym is.instrs)
@@ -418,28 +259,17 @@ module _ (code : Code) (is : IsSample code) where
 
   -- ---- the targets
   private_field : (target f : ℕ) → (field_at the_targets target f).mode ≡ Private → (row_of the_targets target).is_private ≡ true
-  private_field zero f e = absurd (let z : Racy ≡ Private = sym (nil_field f) ∙ e in cc)
-    where
-      nil_field : (f : ℕ) → (field_at the_targets 0 f).mode ≡ Racy
-      nil_field zero = refl
-      nil_field (suc f) = refl
   private_field (suc zero) f e = refl
-  private_field (suc (suc zero)) zero e = absurd (cc)
-  private_field (suc (suc zero)) (suc zero) e = absurd (cc)
-  private_field (suc (suc zero)) (suc (suc zero)) e = absurd (cc)
   private_field (suc (suc zero)) (suc (suc (suc f))) e = absurd (cc)
-  private_field (suc (suc (suc n))) zero e = absurd (cc)
-  private_field (suc (suc (suc n))) (suc f) e = absurd (cc)
+  private_field _ zero e = absurd (cc)
+  private_field _ _ e = absurd (cc)
 
   -- no cell is a pointer, and none stands behind one
   plain_field : (target f : ℕ) → (is_pointer (field_at the_targets target f).holds ≡ false) × (is_mutex (field_at the_targets target f).holds ≡ true → (field_at the_targets target f).mode ≡ Racy) × (is_behind (field_at the_targets target f).mode ≡ false)
-  plain_field zero zero = (refl, (λ e. refl), refl)
-  plain_field (suc zero) (suc zero) = (refl, (λ e. absurd (cc)), refl)
-  plain_field (suc zero) (suc (suc zero)) = (refl, (λ e. absurd (cc)), refl)
-  plain_field (suc (suc zero)) (suc zero) = (refl, (λ e. absurd (cc)), refl)
-  plain_field (suc (suc zero)) (suc (suc zero)) = (refl, (λ e. absurd (cc)), refl)
-  plain_field (suc (suc (suc n))) zero = (refl, (λ e. refl), refl)
-  plain_field _ _ = (refl, (λ e. refl), refl)
+  plain_field (suc zero) (suc (suc zero)) = (refl, (λ e. cc), refl)
+  plain_field (suc (suc zero)) (suc (suc zero)) = (refl, (λ e. cc), refl)
+  plain_field _ zero = (refl, (λ e. cc), refl)
+  plain_field _ _ = (refl, (λ e. cc), refl)
 
   -- of a cell of any type: a row's field, or none of the globals
   field_cases : (P : Field → Type 0) (ty : ObjectType) (i : ℕ) → ((f : ℕ) → (ty.target ≡ 3 → ⊥) → P (field_at the_targets ty.target f)) → P (record { mode = Racy; holds = Integer Long }) → P (field_in the_targets ty i)

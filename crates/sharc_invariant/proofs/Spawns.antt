@@ -1,5 +1,5 @@
 -- Spawn's first three turns keep the invariant: a number is given out, and the function and the argument are written.
-use Rattle.sharc_invariant.proofs.{Imports.{◌≡◌, ℕ, ℤ, pos, zero, suc, ◌+◌, ◌*◌, ◌^◌, ◌<◌, ◌≤◌, ◌≢◌, ◌&&◌, Bool, true, false, cond, List, Option, Some, None, refl, sym, ap, ◌∙◌, subst, inl, inr, ⊎_elim, arith, ltb-true, cases_eq, nat_tests, length-set, get_or-set_same, get_or-set_other, fun_ext, ◌%◌, length, slice_index, slice_set, nat_lt, nat_eq, ◌||◌, ◌==◌, THREADS, Swap, Add, HeldMutex, object_of, Kind, Read, Write, Accesses, note_of, epoch_of, Code, Shape, RunsOn, Stage, Rests, Makes, Lowers, Names, Hands, Begins, Withdraws, WithdrawsFrom, Leaves, holds, int_of, Char, Fits, next_thread_word, state_word, function_word, argument_word, first_cell, top_word, Machine, int, ref, set_int, handed, reference_of, function_of, instr_at, step_of, at_stage, stopped, numbered, argument, spawn, begun, turn, may_go, counted, Turn, Global, put, MayTurn, one_thread, bounds, Register, Trap, Parameter, Instr, put_same, put_other, put_all, Targets, ObjectType, nothing, is_private, LessGate, Entry, Empty, Refers, Unknown, Number, Anything, Within, Indexes, OfElement, OfGlobal, Named, HasName, empty, set_number, Closed, Label, Labels, Leads, HasBase, IsShared, Passes, IsWellTyped, Fine, Window, TypedReference, RegisterOf, ArgumentOf, In, Slot, CellOf, World, Shut, Sole, WorldInvariant, in_ref, none, place, shift, conc_of, lang_of, Shows, is_first, is_unread, if_reference, note_number, register_of, argument_of, staged_of, noted_by, logged, is_ended, has_withdrawn, set_reg, making_of, store, Silently, made_turn, KeepsOthers, StopStands, State, IsSmall, View, view_of, vals_of, Runs, ThreadStands, Threads, Firsts, Reserves, SpawnsNow, EntryStands, NumberStands, TopStands, FramesStand, GateStands, StageStands, label_now, refs_at, types_at, size_of_run, Turned, Kept, sum_to, ne_eq}, TurnAt.{turn_at, turn_stands}, Effects.{place_same, place_other, shift_ok}, Frames.{empty_stands, less_number, filled, less_stands, entry_kept, frames_agree}, Quiet.{KeepsThread, KeepsMost, heap_now, most_state, sum_up, label_held, started_still, args_still, no_argument, sizes_kept, part_put, part_same}, Others.{OnHold, loses}, Turns.{asks_turn, room_of, unseen}, Own.{ref_inside, int_inside, closed_less, runs_at}, Filled.{view_filled, below_filled, free_shut}, Calls.passed_entry, Listed.store_ok, Accesses.back_again, Begun.{begun_stands, begun_regs}, Stores.index_put, Seen.reg_stored, Sums.sum_one, Starts.{register_held, arg_stored, calm_notes}, BitTurns.going_on, Plain.{sim_same, others_stay}, Heaps.low_stored}
+use Rattle.sharc_invariant.proofs.{Imports.{◌≡◌, ℕ, ℤ, pos, zero, suc, ◌+◌, ◌*◌, ◌^◌, ◌<◌, ◌≤◌, ◌≢◌, ◌&&◌, Bool, true, false, cond, List, Option, Some, None, refl, sym, ap, ◌∙◌, subst, inl, inr, ⊎_elim, arith, ltb-true, cases_eq, nat_tests, length-set, get_or-set_same, get_or-set_other, fun_ext, ◌%◌, length, slice_index, slice_set, nat_lt, nat_eq, ◌||◌, ◌==◌, THREADS, Swap, Add, epoch_of, Code, Shape, RunsOn, Stage, Rests, Names, Hands, Begins, holds, int_of, Char, Fits, next_thread_word, state_word, function_word, argument_word, first_cell, top_word, Machine, int, ref, set_int, handed, function_of, instr_at, step_of, at_stage, stopped, numbered, argument, spawn, begun, turn, may_go, counted, Turn, Global, put, MayTurn, one_thread, bounds, Register, Trap, Parameter, Instr, put_same, put_other, put_all, Targets, ObjectType, nothing, is_private, LessGate, Entry, Empty, Refers, Unknown, Number, Anything, Within, Indexes, OfElement, OfGlobal, Named, HasName, empty, set_number, Closed, Label, Labels, Leads, HasBase, IsShared, Passes, IsWellTyped, Fine, Window, TypedReference, RegisterOf, ArgumentOf, In, Slot, CellOf, World, Shut, Sole, WorldInvariant, in_ref, none, place, shift, conc_of, lang_of, Shows, is_first, is_unread, if_reference, register_of, argument_of, staged_of, is_ended, has_withdrawn, set_reg, making_of, store, Silently, made_turn, KeepsOthers, StopStands, State, IsSmall, View, view_of, vals_of, Runs, ThreadStands, Threads, Firsts, Reserves, SpawnsNow, EntryStands, NumberStands, TopStands, FramesStand, GateStands, StageStands, label_now, refs_at, types_at, size_of_run, Turned, Kept, sum_to, ne_eq}, TurnAt.{turn_at, turn_stands}, Effects.{place_same, place_other, shift_ok}, Frames.{empty_stands, less_number, filled, less_stands, entry_kept, frames_agree}, Quiet.{KeepsThread, KeepsMost, heap_now, most_state, sum_up, label_held, started_still, args_still, no_argument, sizes_kept, conc_turned}, Others.{OnHold, loses}, Turns.{asks_turn, room_of, unseen}, Own.{ref_inside, int_inside, closed_less, runs_at}, Filled.{view_filled, below_filled, free_shut}, Calls.passed_entry, Listed.store_ok, Accesses.back_again, Begun.{begun_stands, begun_regs}, Stores.index_put, Seen.reg_stored, Sums.sum_one, Starts.{register_held, arg_stored, calm_notes}, BitTurns.going_on, Plain.{sim_same, others_stay}, Heaps.low_stored}
 use Rattle.sharc_tree.specs.declared.trap.Trap.TheVariants as traps
 
 abbrev pub is_spawning : Stage → Bool
@@ -93,14 +93,9 @@ module _ (x : Targets) (code : Code) (s : Shape) (ls : Labels) (wt : IsWellTyped
     conc_now : conc_of code now ≡ record (store (conc_of code g) k v) { regs = regs_now; args = argument_of code now }
     conc_now =
         let wd : (λ j. slice_index words j) ≡ put (λ i. slice_index g.words i) k v = fun_ext at in
-        let rs : (λ u. register_of code (now.threads u)) ≡ regs_now = part_put (register_of code) g.threads t m' in
-        let lo : (λ u. logged (now.threads u)) ≡ (λ u. logged (g.threads u)) = fun_ext (part_same logged g.threads t m' (fun_ext (λ w. ap (λ (h : List HeldMutex). reference_of (object_of h w)) held))) in
-        let sg : (λ u. staged_of (now.threads u).own.stage) ≡ (λ u. staged_of (g.threads u).own.stage) = fun_ext (part_same (λ m. staged_of m.own.stage) g.threads t m' ((spawning_calm m'.own.stage spawning').staged ∙ sym (spawning_calm m.own.stage spawning).staged)) in
-        let nt : (kind : Kind) → (λ u. noted_by (now.threads u) kind) ≡ (λ u. noted_by (g.threads u) kind) = λ kind.
-        fun_ext (part_same (λ m. noted_by m kind) g.threads t m' (fun_ext (calm_notes m m' table (spawning_calm m.own.stage spawning).withdrawn (spawning_calm m'.own.stage spawning').withdrawn ended_before goes_on kind))) in
-        let rd = nt Read in
-        let wr = nt Write in
-        λ i. record { words = wd i; regs = rs i; args = argument_of code now; logs = lo i; staged = sg i; read_notes = rd i; write_notes = wr i }
+        conc_turned code g t words m' held ((spawning_calm m'.own.stage spawning').staged ∙ sym (spawning_calm m.own.stage spawning).staged)
+        (calm_notes m m' table (spawning_calm m.own.stage spawning).withdrawn (spawning_calm m'.own.stage spawning').withdrawn ended_before goes_on)
+        ∙ (λ i. record (conc_of code g) { words = wd i; regs = regs_now; args = argument_of code now })
 
     sim_now : Shows x s st.cells st.elements (conc_of code now) world
     sim_now =
@@ -554,15 +549,9 @@ module _ (x : Targets) (code : Code) (s : Shape) (ls : Labels) (wt : IsWellTyped
       let t = tr.thread in
       let m = g.threads tr.thread in
       let wd : (λ j. slice_index begun_words j) ≡ put (λ i. slice_index g.words i) (state_word n) 1 = fun_ext word_at in
-      let rs : (λ u. register_of code (then_.threads u)) ≡ regs_last = part_put (register_of code) g.threads t last in
-      let lo : (λ u. logged (then_.threads u)) ≡ (λ u. logged (g.threads u)) = fun_ext (λ u. put_all (λ u y. logged y ≡ logged (g.threads u)) g.threads t last refl (λ u _. refl) u) in
-      let sg : (λ u. staged_of (then_.threads u).own.stage) ≡ (λ u. staged_of (g.threads u).own.stage) =
-      fun_ext (λ u. put_all (λ u (y : Machine). staged_of y.own.stage ≡ staged_of (g.threads u).own.stage) g.threads t last (sym (spawning_calm m.own.stage sp).staged) (λ u _. refl) u) in
-      let nt : (kind : Kind) → (λ u. noted_by (then_.threads u) kind) ≡ (λ u. noted_by (g.threads u) kind) = λ kind.
-      fun_ext (λ u. put_all (λ u y. noted_by y kind ≡ noted_by (g.threads u) kind) g.threads t last (fun_ext (calm_notes m last refl (spawning_calm m.own.stage sp).withdrawn (λ order ended p. refl) (ended_before x code s ls wt fits g world st tr may r f from site is sp) refl kind)) (λ u _. refl) u) in
-      let rd = nt Read in
-      let wr = nt Write in
-      λ i. record { words = wd i; regs = rs i; args = argument_of code then_; logs = lo i; staged = sg i; read_notes = rd i; write_notes = wr i }
+      conc_turned code g t begun_words last refl (sym (spawning_calm m.own.stage sp).staged)
+      (calm_notes m last refl (spawning_calm m.own.stage sp).withdrawn (λ order ended p. refl) (ended_before x code s ls wt fits g world st tr may r f from site is sp) refl)
+      ∙ (λ i. record (conc_of code g) { words = wd i; regs = regs_last; args = argument_of code then_ })
 
   last_state : (w' : World) → w'.obj ≡ world.obj → w'.mutex ≡ world.mutex → w'.win ≡ world.win → KeepsOthers s world w' st.heap (heap_now st.heap begun_words) g.words begun_words tr.thread
       → ((u : ℕ) → u ≢ n → w'.slots (In (ArgumentOf u)) ≡ world.slots (In (ArgumentOf u))) → EntryStands (λ r. in_ref w' (ArgumentOf n)) (λ r. (w'.slots (In (ArgumentOf n))).ty) 0 ((ls.signature f).takes 0)

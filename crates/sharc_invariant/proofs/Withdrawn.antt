@@ -1,5 +1,5 @@
 -- The notes of a thread that withdraws row by row.
-use Rattle.sharc_invariant.proofs.Imports.{◌≡◌, ℕ, zero, suc, ◌+◌, ◌<◌, ◌≤◌, ◌≢◌, ◌||◌, ◌&&◌, Bool, true, false, cond, List, [], ◌∷◌, Option, None, Some, refl, sym, ap, ◌∙◌, ⊎_elim, arith, ◌^◌, cases_lt, eqb-true, eqb-false, nat_tests, and_le_l, length, take, slice_index, slice_index_or, nat_lt, nat_eq, not, is_some, ◌==◌, bit_and, list_any, Kind, Read, Write, GranuleNotes, blank, has_note, of_kind, Accesses, ListsNoted, is_noted, note_of, site_at, withdrawn_of, all_but, ShadowLaws, epoch_of, is_of, is_written, stands, THREADS, Machine, wrote, withdraws, at_stage, Withdraws, Leaves, put, put_same, put_other, put_all, GranuleState, withdrawn, note_number, noted_by, Reads, ne_eq, eq_refl, same_or}
+use Rattle.sharc_invariant.proofs.Imports.{◌≡◌, ℕ, zero, suc, ◌+◌, ◌<◌, ◌≤◌, ◌≢◌, ◌||◌, ◌&&◌, Bool, true, false, cond, List, [], ◌∷◌, Option, None, Some, refl, sym, ap, ◌∙◌, ⊎_elim, arith, ◌^◌, cases_lt, eqb-true, eqb-false, nat_tests, and_le_l, length, take, slice_index, slice_index_or, nat_lt, nat_eq, not, is_some, ◌==◌, bit_and, list_any, Kind, Read, Write, GranuleNotes, blank, has_note, of_kind, Accesses, ListsNoted, is_noted, note_of, site_at, withdrawn_of, all_but, ShadowLaws, epoch_of, is_of, is_written, stands, THREADS, Machine, wrote, withdraws, at_stage, Withdraws, Leaves, put, put_same, put_other, put_all, GranuleState, withdrawn, note_number, noted_by, Reads, ne_eq, eq_refl, same_or, or_assoc, and_false, and_true}
 
 -- ---- the rows that were withdrawn from
 abbrev pub is_row : List ℕ → ℕ → Bool
@@ -11,11 +11,7 @@ one_more [] row p lt = absurd (omega arith)
 one_more (h ∷ order) zero p lt = elim (p == h) as (λ b. (b || false) ≡ (false || b)) [ true ↦ refl | false ↦ refl ]
 one_more (h ∷ order) (suc row) p lt =
     let a = one_more order row p (omega arith) in
-    ap (λ b. (p == h) || b) a ∙ or_or (p == h) (is_row (take row order) p) (p == slice_index order row)
-  where
-    or_or : (a b c : Bool) → (a || (b || c)) ≡ ((a || b) || c)
-    or_or true b c = refl
-    or_or false b c = refl
+    ap (λ b. (p == h) || b) a ∙ sym (or_assoc (p == h) (is_row (take row order) p) (p == slice_index order row))
 
 -- all
 pub all_rows : (order : List ℕ) (p : ℕ) → is_row (take (length order) order) p ≡ is_row order p
@@ -123,14 +119,6 @@ withdrawn_reads laws v t p w rn wn y small lt r own rn' wn' er ew =
       read_note = λ u. put_all (λ u n. n ≡ rn' u p) y.read_note t 0 (sym (er t ∙ put_same (λ u. rn u p) t 0)) (λ u ne. r.read_note u ∙ sym (er u ∙ put_other (λ u. rn u p) t u 0 ne)) u;
       write_note = λ u. put_all (λ u n. n ≡ wn' u p) y.write_note t 0 (sym (ew t ∙ put_same (λ u. wn u p) t 0)) (λ u ne. r.write_note u ∙ sym (ew u ∙ put_other (λ u. wn u p) t u 0 ne)) u;
     }
-  where
-    and_false : (b : Bool) → (b && false) ≡ false
-    and_false true = refl
-    and_false false = refl
-
-    and_true : (b : Bool) → (b && true) ≡ b
-    and_true true = refl
-    and_true false = refl
 
 pub withdrawn_small : (v t : ℕ) (w : Option ℕ) → v < 2 ^ 64 → withdrawn_of v t w < 2 ^ 64
 unfolding withdrawn_of
