@@ -1,42 +1,26 @@
 -- clap reads the words of the command line as the definition does.
-use Rattle.sharc_cli.proofs.{Imports.{◌≡◌, ◌∙◌, ap, ap₂, sym, subst, refl, Bool, true, false, not, ◌&&◌, List, [], ◌∷◌, map, Option, Some, None, is_some, codes, find, none-some, same_Some, bytes_eq-Decides, false≢true, true≢false, fold, option_map, option_and_then, list_any, list_all, option_map_or, bytes_eq, idle, Names, Row, Rule, Text, Walk, answers_to, finished, first_of, has_row, nothing_held, rows_after, settled, subcommand_met, walk, walk_from, walked, with_default, rows_at, Shape, built, entered, label_of, names_of, subcommand_of, turn_fault, check_fault, defaults_fault, entered_fault, fault_of, level_fault, settle_fault, walk_fault, Kinds, or_else, ErrorKind, is_given, stopped_fault, walk_stopped, Reading, command_of, ended, is_option, next, Entry, Form, Word, command_behind, commands, entries_of, forms, nothing_read, number, value_of, values_of, command_in, is_plain, line, values_in, and_false, both as both_true}, Walks.{gate_or, gate, leaf, number_rule, option_rule, rules_by, rules_of}, Readings.{none_ends, IsProper, as_flag, as_word, look_of, not_plain, reads, rows}}
+use Rattle.sharc_cli.proofs.{Imports.{◌≡◌, ◌∙◌, ap, ap₂, sym, subst, refl, Bool, true, false, not, ◌&&◌, List, [], ◌∷◌, map, Option, Some, None, is_some, codes, find, none-some, same_Some, bytes_eq-Decides, false≢true, true≢false, fold, option_map, option_and_then, list_any, list_all, option_map_or, bytes_eq, idle, Names, Row, Rule, Text, Walk, answers_to, finished, first_of, has_row, nothing_held, rows_after, settled, subcommand_met, walk, walk_from, walked, with_default, rows_at, Shape, built, entered, label_of, names_of, subcommand_of, turn_fault, check_fault, defaults_fault, entered_fault, fault_of, level_fault, settle_fault, walk_fault, Kinds, or_else, ErrorKind, is_given, stopped_fault, walk_stopped, Reading, command_of, ended, is_option, next, Entry, Form, Word, command_behind, commands, entries_of, forms, nothing_read, number, value_of, values_of, command_in, is_plain, line, values_in, and_false, both as both_true}, Walks.{by_test, gate_or, gate, leaf, number_rule, option_rule, rules_by, rules_of}, Readings.{none_ends, IsProper, as_flag, as_word, look_of, not_plain, reads, rows}}
 use Rattle.clap.specs.declared.error.kind.ErrorKind.TheVariants as kind
 
 -- ---- one subcommand
 
 options_end : (options : List Text) (rs : List Row) → fold with_default rs (map option_rule options) ≡ rs
 options_end [] rs = refl
-options_end (n ∷ rest) rs = go (has_row n rs) refl (options_end rest rs)
-  where
-    go : (b : Bool) → has_row n rs ≡ b → fold with_default rs (map option_rule rest) ≡ rs → fold with_default (with_default rs (option_rule n)) (map option_rule rest) ≡ rs
-    go true is rest = rw is rest
-    go false is rest = rw is rest
+options_end (n ∷ rest) rs = by_test {G = fold with_default (with_default rs (option_rule n)) (map option_rule rest) ≡ rs} (has_row n rs) (λ is. rw is (options_end rest rs)) (λ is. rw is (options_end rest rs))
 
 rules_end : (b : Bool) (options : List Text) (rs : List Row) → fold with_default rs (rules_by b options) ≡ rs
 rules_end false options rs = options_end options rs
-rules_end true options rs = go (has_row number rs) refl
-  where
-    go : (b : Bool) → has_row number rs ≡ b → fold with_default (with_default rs number_rule) (map option_rule options) ≡ rs
-    go true is = rw is (options_end options rs)
-    go false is = rw is (options_end options rs)
+rules_end true options rs = by_test {G = fold with_default (with_default rs number_rule) (map option_rule options) ≡ rs} (has_row number rs) (λ is. rw is (options_end options rs)) (λ is. rw is (options_end options rs))
 
 options_default : (options : List Text) (rs : List Row) → defaults_fault rs (map option_rule options) ≡ []
 unfolding defaults_fault
 options_default [] rs = refl
-options_default (n ∷ rest) rs = go (has_row n rs) refl (options_default rest rs)
-  where
-    go : (b : Bool) → has_row n rs ≡ b → defaults_fault rs (map option_rule rest) ≡ [] → defaults_fault rs (map option_rule (n ∷ rest)) ≡ []
-    go true is rest = rw is rest
-    go false is rest = rw is rest
+options_default (n ∷ rest) rs = by_test (has_row n rs) (λ is. rw is (options_default rest rs)) (λ is. rw is (options_default rest rs))
 
 rules_default : (b : Bool) (options : List Text) (rs : List Row) → defaults_fault rs (rules_by b options) ≡ []
 unfolding defaults_fault
 rules_default false options rs = options_default options rs
-rules_default true options rs = go (has_row number rs) refl
-  where
-    go : (b : Bool) → has_row number rs ≡ b → defaults_fault rs (rules_by true options) ≡ []
-    go true is = rw is (options_default options rs)
-    go false is = rw is (options_default options rs)
+rules_default true options rs = by_test (has_row number rs) (λ is. rw is (options_default options rs)) (λ is. rw is (options_default options rs))
 
 options_required : (given : Rule → Bool) (options : List Text) → list_any (λ a. a.required && given a) (map option_rule options) ≡ false
 options_required given [] = refl
@@ -89,31 +73,16 @@ form_of w = find (λ f. bytes_eq f.name w) forms
 
 names_found : (fs : List Form) (w : Word) → option_map (λ (s : Text × List Text). s.0) (find (answers_to w) (map label_of (map leaf fs))) ≡ option_map (λ f. f.name) (find (λ f. bytes_eq f.name w) fs)
 names_found [] w = refl
-names_found (f ∷ fs) w = go (bytes_eq f.name w) refl (names_found fs w)
-  where
-    go : (b : Bool) → bytes_eq f.name w ≡ b
-        → option_map (λ (s : Text × List Text). s.0) (find (answers_to w) (map label_of (map leaf fs))) ≡ option_map (λ f. f.name) (find (λ f. bytes_eq f.name w) fs)
-        → option_map (λ (s : Text × List Text). s.0) (find (answers_to w) (map label_of (map leaf (f ∷ fs)))) ≡ option_map (λ f. f.name) (find (λ f. bytes_eq f.name w) (f ∷ fs))
-    go true is rest = rw is refl
-    go false is rest = rw is rest
+names_found (f ∷ fs) w = by_test (bytes_eq f.name w) (λ is. rw is refl) (λ is. rw is (names_found fs w))
 
 leaves_found : (fs : List Form) (w : Word) → find (λ s. answers_to w (label_of s)) (map leaf fs) ≡ option_map leaf (find (λ f. bytes_eq f.name w) fs)
 leaves_found [] w = refl
-leaves_found (f ∷ fs) w = go (bytes_eq f.name w) refl (leaves_found fs w)
-  where
-    go : (b : Bool) → bytes_eq f.name w ≡ b
-        → find (λ s. answers_to w (label_of s)) (map leaf fs) ≡ option_map leaf (find (λ f. bytes_eq f.name w) fs)
-        → find (λ s. answers_to w (label_of s)) (map leaf (f ∷ fs)) ≡ option_map leaf (find (λ f. bytes_eq f.name w) (f ∷ fs))
-    go true is rest = rw is refl
-    go false is rest = rw is rest
+leaves_found (f ∷ fs) w = by_test (bytes_eq f.name w) (λ is. rw is refl) (λ is. rw is (leaves_found fs w))
 
 named : (fs : List Form) (w : Word) (f : Form) → find (λ f. bytes_eq f.name w) fs ≡ Some f → f.name ≡ w
 named [] w f e = absurd (none-some f e)
-named (g ∷ gs) w f e = go (bytes_eq g.name w) refl (named gs w f)
-  where
-    go : (b : Bool) → bytes_eq g.name w ≡ b → (find (λ f. bytes_eq f.name w) gs ≡ Some f → f.name ≡ w) → f.name ≡ w
-    go true is rest = sym (ap (λ (h : Form). h.name) (same_Some g f (rw is at e))) ∙ (bytes_eq-Decides g.name w).0 is
-    go false is rest = rest (rw is at e)
+named (g ∷ gs) w f e =
+    by_test (bytes_eq g.name w) (λ is. sym (ap (λ (h : Form). h.name) (same_Some g f (rw is at e))) ∙ (bytes_eq-Decides g.name w).0 is) (λ is. named gs w f (rw is at e))
 
 leaf_found : (w : Word) (f : Form) → form_of w ≡ Some f → find (λ s. answers_to f.name (label_of s)) (built line).subs ≡ Some (leaf f)
 leaf_found w f e =
@@ -199,11 +168,7 @@ top_refuses w ws plain e none = turn_refuses w plain e (turn_first w ws _ _ none
 
 first_is : (id : Word) (entries : List Entry) → first_of id (rows entries) ≡ value_of id entries
 first_is id [] = refl
-first_is id (e ∷ es) = go (bytes_eq e.0 id) refl (first_is id es)
-  where
-    go : (b : Bool) → bytes_eq e.0 id ≡ b → first_of id (rows es) ≡ value_of id es → first_of id (rows (e ∷ es)) ≡ value_of id (e ∷ es)
-    go true is rest = rw is refl
-    go false is rest = rw is rest
+first_is id (e ∷ es) = by_test (bytes_eq e.0 id) (λ is. rw is refl) (λ is. rw is (first_is id es))
 
 values_same : (entries : List Entry) → values_in (rows entries) ≡ values_of entries
 values_same entries =
@@ -226,11 +191,7 @@ forms_proper =
 
 proper_of : (fs : List Form) → AreProper fs → (w : Word) (f : Form) → find (λ f. bytes_eq f.name w) fs ≡ Some f → IsProper f
 proper_of [] all w f e = absurd (none-some f e)
-proper_of (g ∷ gs) all w f e = go (bytes_eq g.name w) refl (proper_of gs all.1 w f)
-  where
-    go : (b : Bool) → bytes_eq g.name w ≡ b → (find (λ f. bytes_eq f.name w) gs ≡ Some f → IsProper f) → IsProper f
-    go true is rest = subst IsProper (same_Some g f (rw is at e)) all.0
-    go false is rest = rest (rw is at e)
+proper_of (g ∷ gs) all w f e = by_test (bytes_eq g.name w) (λ is. subst IsProper (same_Some g f (rw is at e)) all.0) (λ is. proper_of gs all.1 w f (rw is at e))
 
 read_as : (name : Word) (rs : List Row) (o : Option (List Entry)) → Some rs ≡ option_map rows o
     → command_of name (values_in rs) ≡ option_and_then (λ entries. command_of name (values_of entries)) o
@@ -274,32 +235,22 @@ refused (w ∷ ws) plain some = go (form_of w) refl
 
 plain_names : (fs : List Form) → list_all (λ f. is_plain f.name) fs ≡ true → (w : Word) → is_plain w ≡ false → find (λ f. bytes_eq f.name w) fs ≡ None
 plain_names [] all w not = refl
-plain_names (f ∷ fs) all w not = go (bytes_eq f.name w) refl (plain_names fs (both_true (is_plain f.name) _ all).1 w not)
-  where
-    go : (b : Bool) → bytes_eq f.name w ≡ b → find (λ f. bytes_eq f.name w) fs ≡ None → find (λ f. bytes_eq f.name w) (f ∷ fs) ≡ None
-    go true is rest =
-        let same = ap is_plain ((bytes_eq-Decides f.name w).0 is) in
-        absurd (true≢false (sym (both_true (is_plain f.name) _ all).0 ∙ (same ∙ not)))
-    go false is rest = rw is rest
+plain_names (f ∷ fs) all w not =
+    by_test (bytes_eq f.name w)
+    (λ is. absurd (true≢false (sym (both_true (is_plain f.name) _ all).0 ∙ (ap is_plain ((bytes_eq-Decides f.name w).0 is) ∙ not))))
+    (λ is. rw is (plain_names fs (both_true (is_plain f.name) _ all).1 w not))
 
 unread : (f : Form) → IsProper f → (r : Option Reading) (ws : List Word) → list_all is_plain ws ≡ false → ended (fold (next f) r ws) ≡ None
 unread f proper r [] e = absurd (true≢false e)
-unread f proper r (w ∷ ws) e = go (is_plain w) refl (unread f proper (next f r w) ws)
-  where
-    go : (b : Bool) → is_plain w ≡ b → (list_all is_plain ws ≡ false → ended (fold (next f) (next f r w) ws) ≡ None) → ended (fold (next f) (next f r w) ws) ≡ None
-    go true is rest = rest (rw is at e)
-    go false is rest = ap (λ x. ended (fold (next f) x ws)) (not_plain f r w is proper.unnamed) ∙ none_ends f ws
+unread f proper r (w ∷ ws) e =
+    by_test (is_plain w) (λ is. unread f proper (next f r w) ws (rw is at e)) (λ is. ap (λ x. ended (fold (next f) x ws)) (not_plain f r w is proper.unnamed) ∙ none_ends f ws)
 
 pub unplain : (words : List Word) → list_all is_plain words ≡ false → None ≡ commands words
 unplain [] e = refl
-unplain (w ∷ ws) e = go (is_plain w) refl
+unplain (w ∷ ws) e = by_test (is_plain w) (λ is. behind is (form_of w) refl) (λ is. sym (ap (option_and_then (command_behind ws)) (plain_names forms refl w is)))
   where
     behind : is_plain w ≡ true → (o : Option Form) → form_of w ≡ o → None ≡ commands (w ∷ ws)
     behind is None found = sym (ap (option_and_then (command_behind ws)) found)
     behind is (Some f) found =
         sym (ap (option_and_then (command_behind ws)) found
         ∙ ap (option_and_then (λ entries. command_of f.name (values_of entries))) (unread f (proper_of forms forms_proper w f found) (Some nothing_read) ws (rw is at e)))
-
-    go : (b : Bool) → is_plain w ≡ b → None ≡ commands (w ∷ ws)
-    go true is = behind is (form_of w) refl
-    go false is = sym (ap (option_and_then (command_behind ws)) (plain_names forms refl w is))

@@ -1,5 +1,5 @@
 -- clap reads what follows a command as the definition does.
-use Rattle.sharc_cli.proofs.{Imports.{◌≡◌, ◌∙◌, ◌⊎◌, inl, inr, ap, ap₂, sym, refl, ℕ, ◌<◌, Bool, true, false, ◌&&◌, ◌||◌, ◌==◌, nat_lt, List, [], ◌∷◌, ◌++◌, map, Option, Some, None, length, arith, lt-ltb, false≢true, true≢false, list_any-append, if◌then◌else◌, fold, option_map, list_all, bytes_eq, long_of, Row, Text, settled_rows, used, settle_fault, walk_fault, name_and_value, next_by, Entry, Form, Reading, Word, ended, has, has_hyphen, is_option, next, number, option_of, with_entry, with_option, is_plain, or_false, and_false, both as both_true}, Walks.{IsApart, IsBare, at_idle, at_option, by_id, dashes, entry_row, gate, gate_none, has_entry_row, held, no_index, not_number, number_id, option_rule, repeated, rows_by, rules_of, second_index, step_filled, step_number, step_option, step_stray, step_unfilled, step_unknown, step_value, use_repeats, used_adds}}
+use Rattle.sharc_cli.proofs.{Imports.{◌≡◌, ◌∙◌, ◌⊎◌, inl, inr, ap, ap₂, sym, refl, ℕ, ◌<◌, Bool, true, false, ◌||◌, ◌==◌, nat_lt, List, [], ◌∷◌, ◌++◌, map, Option, Some, None, length, arith, lt-ltb, false≢true, true≢false, list_any-append, if◌then◌else◌, fold, option_map, list_all, bytes_eq, long_of, Row, Text, settled_rows, used, settle_fault, walk_fault, name_and_value, next_by, Entry, Form, Reading, Word, ended, has, has_hyphen, is_option, next, number, option_of, with_entry, with_option, is_plain, or_false, and_false, both as both_true}, Walks.{by_test, IsApart, IsBare, at_idle, at_option, by_id, dashes, entry_row, gate, gate_none, has_entry_row, held, no_index, not_number, number_id, option_rule, repeated, rows_by, rules_of, second_index, step_filled, step_number, step_option, step_stray, step_unfilled, step_unknown, step_value, use_repeats, used_adds}}
 
 -- ---- what a plain word looks like
 
@@ -31,19 +31,14 @@ long_flag x y z rest first second =
     })
 
 hyphened : (x : ℕ) (rest : Text) → (x == 45) ≡ true → is_plain (x ∷ rest) ≡ true → Look (x ∷ rest)
-hyphened x [] first e = absurd (false≢true (rw first at e))
-hyphened x (y ∷ []) first e = absurd (false≢true (rw first at e))
 hyphened x (y ∷ z ∷ rest) first e =
     let some : nat_lt 0 (length (x ∷ y ∷ z ∷ rest)) ≡ true = lt-ltb 0 (length (x ∷ y ∷ z ∷ rest)) (omega arith) in
     long_flag x y z rest first (both_true _ _ (rw (some, first) at e)).1
+hyphened x _ first e = absurd (false≢true (rw first at e))
 
 pub look_of : (w : Text) → is_plain w ≡ true → Look w
 look_of [] e = as_word (record { bare = record { long = refl; short = refl; dashed = refl }; hyphen = refl })
-look_of (x ∷ rest) e = go (x == 45) refl
-  where
-    go : (b : Bool) → (x == 45) ≡ b → Look (x ∷ rest)
-    go true b = hyphened x rest b e
-    go false b = no_hyphen x rest b
+look_of (x ∷ rest) e = by_test (x == 45) (λ b. hyphened x rest b e) (λ b. no_hyphen x rest b)
 
 not_long : (x y : ℕ) (rest : Text) → (x == 45) ≡ true → is_plain (x ∷ y ∷ rest) ≡ false → 0 < length rest → (y == 45) ≡ false
 not_long x y rest first e more =
@@ -54,11 +49,7 @@ not_long x y rest first e more =
 no_option : (f : Form) (x : ℕ) (rest : Text) (entries : List Entry) → (x == 45) ≡ true → is_plain (x ∷ rest) ≡ false → is_option f [] ≡ false
     → with_option f (option_of (x ∷ rest)) entries ≡ None
 no_option f x [] entries first e unnamed = rw first refl
-no_option f x (y ∷ []) entries first e unnamed = go (y == 45) refl
-  where
-    go : (b : Bool) → (y == 45) ≡ b → with_option f (option_of (x ∷ y ∷ [])) entries ≡ None
-    go true b = rw (first, b, unnamed) refl
-    go false b = rw (first, b) refl
+no_option f x (y ∷ []) entries first e unnamed = by_test (y == 45) (λ b. rw (first, b, unnamed) refl) (λ b. rw (first, b) refl)
 no_option f x (y ∷ z ∷ rest) entries first e unnamed = rw (first, not_long x y (z ∷ rest) first e (omega arith)) refl
 
 next_flag : (f : Form) (w : Word) (entries : List Entry) → has_hyphen w ≡ true → next_by f None w entries ≡ with_option f (option_of w) entries
@@ -151,11 +142,7 @@ position_stays f entries name value position other at is =
     rw (same, other, or_false (has number entries)) (at is)
 
 place_of : (f : Form) (entries : List Entry) (position : ℕ) → AtPosition f entries position → f.has_number ≡ true → (position ≡ 1) ⊎ (position ≡ 2)
-place_of f entries position at is = go (has number entries) refl
-  where
-    go : (b : Bool) → has number entries ≡ b → (position ≡ 1) ⊎ (position ≡ 2)
-    go true b = inr (rw b at (at is))
-    go false b = inl (rw b at (at is))
+place_of f entries position at is = by_test (has number entries) (λ b. inr (rw b at (at is))) (λ b. inl (rw b at (at is)))
 
 next_number : (f : Form) (w : Word) (entries : List Entry) → has_hyphen w ≡ false → f.has_number ≡ true → next_by f None w entries ≡ with_entry number w entries
 next_number f w entries hyphen e = rw (hyphen, e) refl
@@ -178,15 +165,11 @@ module _ (f : Form) (proper : IsProper f) where
       → (rows_by f (at_idle (rows (entries ++ (name, value) ∷ [])) None position) ws ≡ read_by f (Some (record { entries = entries ++ (name, value) ∷ []; waiting = None })) ws)
       → gate (repeated name (rows entries)) (rows_by f (at_idle (used (option_rule name) (value ∷ []) (rows entries)) None position) ws)
       ≡ read_by f (with_entry name value entries) ws
-  added name value ws entries position next = go (has name entries) refl
-    where
-      go : (b : Bool) → has name entries ≡ b
-          → gate (repeated name (rows entries)) (rows_by f (at_idle (used (option_rule name) (value ∷ []) (rows entries)) None position) ws)
-          ≡ read_by f (with_entry name value entries) ws
-      go true b = rw (has_entry_row name entries, b) (sym (none_stays f ws))
-      go false b =
-          let new = has_entry_row name entries ∙ b in
-          rw (new, b) (ap (λ (v : List Row). rows_by f (at_idle v None position) ws) (used_adds name value (rows entries) new ∙ sym (map_more entries (name, value))) ∙ next)
+  added name value ws entries position next =
+      by_test (has name entries) (λ b. rw (has_entry_row name entries, b) (sym (none_stays f ws)))
+      (λ b.
+      let new = has_entry_row name entries ∙ b in
+      rw (new, b) (ap (λ (v : List Row). rows_by f (at_idle v None position) ws) (used_adds name value (rows entries) new ∙ sym (map_more entries (name, value))) ∙ next))
 
   idle_flag : (w name : Word) (v : Option Word) (ws : List Word) → IsFlag w (name, v) → (b : Bool) → is_option f name ≡ b
       → FromIdle ws → FromOption ws → FromIdle (w ∷ ws)
@@ -207,23 +190,21 @@ module _ (f : Form) (proper : IsProper f) where
   idle_word : (w : Word) (ws : List Word) → IsWord w → list_all is_plain ws ≡ true → (b : Bool) → f.has_number ≡ b → FromIdle ws → FromIdle (w ∷ ws)
   idle_word w ws plain rest false e idle entries position at =
       step_stray f w (rows entries) None position ws plain.bare (no_index f position e) ∙ rw (plain.hyphen, e) (sym (none_stays f ws))
-  idle_word w ws plain rest true e idle entries position at = go (has number entries) refl
-    where
-      go : (b : Bool) → has number entries ≡ b
-          → rows_by f (at_idle (rows entries) None position) (w ∷ ws) ≡ read_by f (Some (record { entries = entries; waiting = None })) (w ∷ ws)
-      go true is =
-          let second = rw is at (at e) in
-          let twice : with_entry number w entries ≡ None = rw is refl in
-          rw second (step_stray f w (rows entries) None 2 ws plain.bare (second_index f e)
-          ∙ sym (ap (λ r. read_by f r ws) (next_number f w entries plain.hyphen e ∙ twice) ∙ none_stays f ws))
-      go false is =
-          let first = rw is at (at e) in
-          let new : AtPosition f (entries ++ (number, w) ∷ []) 2 =
-          λ _. rw (list_any-append (λ (x : Entry). bytes_eq x.0 number) entries ((number, w) ∷ []), is) refl in
-          rw first (step_number f w (rows entries) None ws plain.bare e
-          ∙ (settles f number w (rows entries) 2 (rw (number_id f e) (use_repeats number w (rows entries))) (rw (number_id f e) refl) (λ _. inr refl) ws rest
-          ∙ (added number w ws entries 2 (idle (entries ++ (number, w) ∷ []) 2 new)
-          ∙ ap (λ r. read_by f r ws) (sym (next_number f w entries plain.hyphen e)))))
+  idle_word w ws plain rest true e idle entries position at =
+      by_test (has number entries)
+      (λ is.
+      let second = rw is at (at e) in
+      let twice : with_entry number w entries ≡ None = rw is refl in
+      rw second (step_stray f w (rows entries) None 2 ws plain.bare (second_index f e)
+      ∙ sym (ap (λ r. read_by f r ws) (next_number f w entries plain.hyphen e ∙ twice) ∙ none_stays f ws)))
+      (λ is.
+      let first = rw is at (at e) in
+      let new : AtPosition f (entries ++ (number, w) ∷ []) 2 =
+      λ _. rw (list_any-append (λ (x : Entry). bytes_eq x.0 number) entries ((number, w) ∷ []), is) refl in
+      rw first (step_number f w (rows entries) None ws plain.bare e
+      ∙ (settles f number w (rows entries) 2 (rw (number_id f e) (use_repeats number w (rows entries))) (rw (number_id f e) refl) (λ _. inr refl) ws rest
+      ∙ (added number w ws entries 2 (idle (entries ++ (number, w) ∷ []) 2 new)
+      ∙ ap (λ r. read_by f r ws) (sym (next_number f w entries plain.hyphen e))))))
 
   option_word : (w name : Word) (ws : List Word) → IsWord w → list_all is_plain ws ≡ true → FromIdle ws → (entries : List Entry) (position : ℕ)
       → AtPosition f entries position → is_option f name ≡ true

@@ -1,5 +1,5 @@
 -- What clap makes of the words after a command.
-use Rattle.sharc_cli.proofs.Imports.{◌≡◌, ◌∙◌, ap, ap₂, sym, subst, refl, ℕ, Bool, true, false, ◌&&◌, ◌||◌, List, [], ◌∷◌, ◌++◌, map, Option, Some, None, bytes_eq-Decides, false≢true, true≢false, append-nil, if◌then◌else◌, fold, codes, list_any, bytes_eq, long_of, short_of, is_pending, more_values, reading_by, Held, Row, Rule, Text, Walk, arg_by_id, arg_by_index, arg_by_long, at_row, has_row, idle, option, settled, settled_rows, used, walked, Shape, built, filled, is_simple, new_rule, new_shape, with_index, is_simple_and_free, settle_fault, turn_fault, use_fault, walk_fault, Kinds, or_else, CommandLine, clap_on_literals, Entry, Form, has, is_option, number, line, option_argument, and_false}
+use Rattle.sharc_cli.proofs.Imports.{◌≡◌, ◌∙◌, ap, ap₂, sym, subst, refl, ℕ, Bool, true, false, ◌||◌, List, [], ◌∷◌, ◌++◌, map, Option, Some, None, bytes_eq-Decides, false≢true, true≢false, append-nil, if◌then◌else◌, fold, codes, list_any, bytes_eq, long_of, short_of, is_pending, more_values, reading_by, Held, Row, Rule, Text, Walk, arg_by_id, arg_by_index, arg_by_long, at_row, has_row, idle, option, settled, settled_rows, used, walked, Shape, filled, is_simple, new_rule, new_shape, with_index, is_simple_and_free, settle_fault, turn_fault, use_fault, walk_fault, Kinds, or_else, CommandLine, clap_on_literals, Entry, Form, has, is_option, number, line, option_argument, and_false}
 use Rattle.clap.specs.declared.error.kind.ErrorKind.TheVariants as kind
 
 pub line_is_simple : is_simple line ≡ true
@@ -9,6 +9,11 @@ line_is_simple = refl
 pub line_is_free : is_simple_and_free line ≡ true
 unfolding clap_on_literals
 line_is_free = refl
+
+-- the two answers of a test
+pub by_test : {G : Type 0} (b : Bool) → (b ≡ true → G) → (b ≡ false → G) → G
+by_test true first second = first refl
+by_test false first second = second refl
 
 -- ---- the built subcommands
 
@@ -40,12 +45,9 @@ leaf f = record (new_shape f.name) {
 options_by_long : (options : List Text) (name : Text) (is : Bool) → list_any (λ n. bytes_eq n name) options ≡ is
     → arg_by_long (map option_rule options) name ≡ (if is then Some (option_rule name) else None)
 options_by_long [] name is e = rw (← e) refl
-options_by_long (n ∷ rest) name is e = go (bytes_eq n name) refl (options_by_long rest name is)
-  where
-    go : (b : Bool) → bytes_eq n name ≡ b → (list_any (λ n. bytes_eq n name) rest ≡ is → arg_by_long (map option_rule rest) name ≡ (if is then Some (option_rule name) else None))
-        → arg_by_long (map option_rule (n ∷ rest)) name ≡ (if is then Some (option_rule name) else None)
-    go true b rec = let same = (bytes_eq-Decides n name).0 b in rw (← e, b) (ap (λ x. Some (option_rule x)) same)
-    go false b rec = rw b (rec (rw b at e))
+options_by_long (n ∷ rest) name is e =
+    by_test (bytes_eq n name) (λ b. let same = (bytes_eq-Decides n name).0 b in rw (← e, b) (ap (λ x. Some (option_rule x)) same))
+    (λ b. rw b (options_by_long rest name is (rw b at e)))
 
 pub by_long : (f : Form) (name : Text) (is : Bool) → is_option f name ≡ is → arg_by_long (rules_of f) name ≡ (if is then Some (option_rule name) else None)
 by_long f name is e = go f.has_number
@@ -57,35 +59,25 @@ by_long f name is e = go f.has_number
 options_by_id : (options : List Text) (name : Text) → list_any (λ n. bytes_eq n name) options ≡ true
     → arg_by_id (map option_rule options) name ≡ Some (option_rule name)
 options_by_id [] name e = absurd (false≢true e)
-options_by_id (n ∷ rest) name e = go (bytes_eq n name) refl (options_by_id rest name)
-  where
-    go : (b : Bool) → bytes_eq n name ≡ b → (list_any (λ n. bytes_eq n name) rest ≡ true → arg_by_id (map option_rule rest) name ≡ Some (option_rule name))
-        → arg_by_id (map option_rule (n ∷ rest)) name ≡ Some (option_rule name)
-    go true b rec = let same = (bytes_eq-Decides n name).0 b in rw b (ap (λ x. Some (option_rule x)) same)
-    go false b rec = rw b (rec (rw b at e))
+options_by_id (n ∷ rest) name e =
+    by_test (bytes_eq n name) (λ b. let same = (bytes_eq-Decides n name).0 b in rw b (ap (λ x. Some (option_rule x)) same))
+    (λ b. rw b (options_by_id rest name (rw b at e)))
 
 -- no option of the form is called `number`
 abbrev pub IsApart : Form → Type 0
 IsApart f = is_option f number ≡ false
 
 pub not_number : (f : Form) (name : Text) → IsApart f → is_option f name ≡ true → bytes_eq name number ≡ false
-not_number f name apart e = go (bytes_eq name number) refl
-  where
-    go : (b : Bool) → bytes_eq name number ≡ b → bytes_eq name number ≡ false
-    go true b =
-        let same = (bytes_eq-Decides name number).0 b in
-        absurd (false≢true (sym apart ∙ subst (λ n. is_option f n ≡ true) same e))
-    go false b = b
+not_number f name apart e =
+    by_test (bytes_eq name number) (λ b. absurd (false≢true (sym apart ∙ subst (λ n. is_option f n ≡ true) ((bytes_eq-Decides name number).0 b) e))) (λ b. b)
 
 pub by_id : (f : Form) (name : Text) → IsApart f → is_option f name ≡ true → arg_by_id (rules_of f) name ≡ Some (option_rule name)
 by_id f name apart e = go f.has_number
   where
     other : bytes_eq number name ≡ false
-    other = go2 (bytes_eq number name) refl
-      where
-        go2 : (b : Bool) → bytes_eq number name ≡ b → bytes_eq number name ≡ false
-        go2 true b = absurd (false≢true (sym (not_number f name apart e) ∙ (bytes_eq-Decides name number).1 (sym ((bytes_eq-Decides number name).0 b))))
-        go2 false b = b
+    other =
+        by_test (bytes_eq number name)
+        (λ b. absurd (false≢true (sym (not_number f name apart e) ∙ (bytes_eq-Decides name number).1 (sym ((bytes_eq-Decides number name).0 b))))) (λ b. b)
 
     go : (b : Bool) → arg_by_id (rules_by b f.options) name ≡ Some (option_rule name)
     go true = rw other (options_by_id f.options name e)
@@ -114,11 +106,8 @@ entry_row e = record { id = e.0; values = e.1 ∷ []; count = None; source = Som
 
 absent : (id : Text) (change : Row → List Row) (missing rows : List Row) → has_row id rows ≡ false → at_row id change missing rows ≡ rows ++ missing
 absent id change missing [] e = refl
-absent id change missing (r ∷ rs) e = go (bytes_eq r.id id) refl (absent id change missing rs)
-  where
-    go : (b : Bool) → bytes_eq r.id id ≡ b → (has_row id rs ≡ false → at_row id change missing rs ≡ rs ++ missing) → at_row id change missing (r ∷ rs) ≡ r ∷ rs ++ missing
-    go true b rec = absurd (true≢false (rw b at e))
-    go false b rec = rw b (ap (λ t. r ∷ t) (rec (rw b at e)))
+absent id change missing (r ∷ rs) e =
+    by_test (bytes_eq r.id id) (λ b. absurd (true≢false (rw b at e))) (λ b. rw b (ap (λ t. r ∷ t) (absent id change missing rs (rw b at e))))
 
 pub used_adds : (name value : Text) (rows : List Row) → has_row name rows ≡ false → used (option_rule name) (value ∷ []) rows ≡ rows ++ entry_row (name, value) ∷ []
 used_adds name value rows e =
@@ -147,11 +136,7 @@ abbrev pub repeated : Text → List Row → Kinds
 repeated name rows = if has_row name rows then kind.ArgumentConflict ∷ [] else []
 
 pub use_repeats : (name value : Text) (rows : List Row) → use_fault false (option_rule name) (value ∷ []) rows ≡ repeated name rows
-use_repeats name value rows = go (has_row name rows) refl
-  where
-    go : (b : Bool) → has_row name rows ≡ b → use_fault false (option_rule name) (value ∷ []) rows ≡ repeated name rows
-    go true b = rw b refl
-    go false b = rw b refl
+use_repeats name value rows = by_test (has_row name rows) (λ b. rw b refl) (λ b. rw b refl)
 
 -- ---- the steps of the walk
 
@@ -171,9 +156,9 @@ rows_by f w ws =
     gate (walk_fault (leaf f) [] w ws) (gate (settle_fault (rules_of f) false end) (Some (settled (rules_of f) end).rows))
 
 gate_two : (a b : Kinds) (x : Option (List Row)) → gate (or_else (or_else a b) []) x ≡ gate a (gate b x)
+gate_two (k ∷ ks) b x = refl
 gate_two [] [] x = refl
 gate_two [] (k ∷ ks) x = refl
-gate_two (k ∷ ks) b x = refl
 
 -- one more word, by its fault and the walk after it
 turned : (f : Form) (w after : Walk) (word : Text) (ws : List Text) (fault : Kinds)
