@@ -3,6 +3,7 @@ mod Asking
 mod Closed
 mod Counting
 mod Extending
+mod Freeing
 mod Going
 mod Growing
 mod GrowingWith
@@ -10,5 +11,6 @@ mod Legal
 mod Obeying
 mod Resting
 mod Running
+mod Settled
 mod Spending
 pub mod Moded
