@@ -6,7 +6,7 @@ mod Extending
 mod Freeing
 mod Going
 mod Growing
-mod GrowingWith
+mod Last
 mod Legal
 mod Obeying
 mod Resting
