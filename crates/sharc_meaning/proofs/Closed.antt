@@ -1,25 +1,33 @@
 -- What holds of every run: what the parts of the meaning keep, by one induction on the syntax.
-use Rattle.sharc_meaning.proofs.Imports.{ℕ, zero, suc, ℤ, pos, negsuc, Bool, true, false, cond, not, List, [], ◌∷◌, ◌++◌, length, drop, slice_index_or, unsigned_abs, Option, Some, None, Result, Ok, Err, nat_lt, codes, bytes_eq, Act, Object, Global, Made, TakeKind, Site, Span, Declaration, FieldOperator, Dot, Arrow, BinaryOperator, LogicalOr, LogicalAnd, PlaceCall, Lock, Unlock, Free, UnaryOperator, Negate, Not, Complement, Dereference, ValueCall, Expression, identifier, constant, parentheses, call, spawn, on_value, on_place, cast, index, field, unary, binary, Arguments, no_arguments, argument, Right, value, malloc, Simple, assign, does_call, Local, First, nothing, declares, does, Statement, empty, block, declare, simple, jump, return, if_then, if_then_else, while, for, Statements, no_statements, statement, Function, Readonly, Locked, Cast, ToFree, Trap, span_of, Named, Kind, is_pointer, is_array, element_kind, declared_kind, declared_kinds, promoted, Resolution, named_at, kind_at, function_at, class_of, binary_result, parameters_named, Assignment, Sharing, private, locked, cell_at, pointed, written, row_at, declared_row, cast_row, cell_of, element_cells, Guard, mutex, behind, no_mutex, guard_of, instance_mode, bits_of, fits, is_zero, truth, operated, negated, complement, held_mutexes, holds_mutex, NULL, is_null, number_of, elements_of, constant_value, GivenUp, Released, Replaced, Emptied, Frame, Use, writes, nulls, go, new_variable, with_value, with_temporary, without_temporaries, Run, Step, ◌>>=◌, give, stop, unless_stop, entered, answered, performs, gives_up, drops, holds, holds_reference, moves, moves_on, is_reference, temporarily, value_of, looks_at, traces, sets, reads_variable, writes_variable, begins_with, in_block, StorePlace, variable, cell, no_place, place_named, pointee, based, element, element_of_array, index_place, pointee_place, field_place, unary_place, guarding, access_mode, fetched, stored, taken_from, cast_to, freed, cell_at_place, moves_base, gives_up_base, lock_call, unlock_call, wait_call, signal_call, broadcast_call, condition_call, Calls, resulting, tested, operand, fitting, passed, named_value, called, number_named, value_act, spawned, value_called, taking, place_called, cast_value, place_value, unary_value, binary_value, eval, eval_all, place_of, Flow, next, returned, on_next, loop, left_by, elements_made, is_positive, right_value, done_simple, initialised, declared, done_first, done_step, done_test, return_with, exec, exec_all, parameters_begin, left_at, in_frame, run_function, call_value, calls, goes_away, run_thread, Taken}
+use Rattle.sharc_meaning.proofs.Imports.{ℕ, zero, suc, ℤ, pos, negsuc, Bool, true, false, cond, not, List, [], ◌∷◌, ◌++◌, length, drop, slice_index_or, unsigned_abs, Option, Some, None, Result, Ok, Err, nat_lt, codes, bytes_eq, Act, Object, Global, Made, TakeKind, Site, Span, Declaration, FieldOperator, Dot, Arrow, BinaryOperator, LogicalOr, LogicalAnd, PlaceCall, Lock, Unlock, Free, UnaryOperator, Negate, Not, Complement, Dereference, ValueCall, Expression, identifier, constant, parentheses, call, spawn, on_value, on_place, cast, index, field, unary, binary, Arguments, no_arguments, argument, Right, value, malloc, Simple, assign, does_call, Local, First, nothing, declares, does, Statement, empty, block, declare, simple, jump, return, if_then, if_then_else, while, for, Statements, no_statements, statement, Function, Readonly, Locked, Cast, ToFree, Trap, span_of, Named, Kind, is_pointer, is_array, element_kind, declared_kind, declared_kinds, promoted, Resolution, named_at, kind_at, function_at, class_of, binary_result, parameters_named, Assignment, Sharing, private, locked, cell_at, pointed, written, row_at, declared_row, cast_row, cell_of, element_cells, Guard, mutex, behind, no_mutex, guard_of, instance_mode, bits_of, fits, is_zero, truth, operated, negated, complement, held_mutexes, holds_mutex, NULL, is_null, number_of, elements_of, constant_value, GivenUp, Released, Replaced, Emptied, Frame, Use, writes, nulls, go, new_variable, with_value, with_temporary, without_temporaries, Run, Step, ◌>>=◌, give, stop, unless_stop, entered, answered, performs, gives_up, drops, holds, holds_reference, moves, moves_on, is_reference, temporarily, value_of, looks_at, traces, sets, reads_variable, writes_variable, begins_with, in_block, StorePlace, variable, cell, no_place, place_named, pointee, based, element, element_of_array, index_place, pointee_place, field_place, unary_place, guarding, access_mode, fetched, stored, taken_from, cast_to, freed, cell_at_place, moves_base, gives_up_base, lock_call, unlock_call, wait_call, signal_call, broadcast_call, condition_call, Calls, resulting, tested, operand, fitting, passed, named_value, called, number_named, value_act, spawned, value_called, taking, place_called, cast_value, place_value, unary_value, binary_value, eval, eval_all, place_of, Flow, next, returned, on_next, loop, left_by, elements_made, is_positive, right_value, done_simple, initialised, declared, done_first, done_step, done_test, return_with, exec, exec_all, parameters_begin, left_at, in_frame, run_function, call_value, calls, goes_away, run_thread, Taken, Join, Print, AllByRecursion, CellMode, taken_to_free, ◌≡◌, refl}
 
--- A property of runs that the parts of the meaning keep. Its flag says that a statement or an expression was entered.
-pub record Closed (Q : Bool → (A : Type 0) → Run A → Type 0) : Type 1 where
+-- given up by something else than the cells of an object that is freed
+abbrev pub NotEmptied : GivenUp → Type 0
+NotEmptied (Emptied n) = ⊥
+NotEmptied _ = Unit {0}
+
+-- A property of runs that the parts of the meaning keep. Its flag says that a statement or an expression was entered. Where a `free` stands apart, as one part,
+-- no other event takes something to free it, and nothing else gives up the cells of an object.
+pub record Closed (apart : Bool) (Q : Bool → (A : Type 0) → Run A → Type 0) : Type 1 where
   pub eases : (A : Type 0) (m : Run A) → Q true A m → Q false A m
   pub give : (A : Type 0) (x : A) → Q false A (give x)
   pub stop : (A : Type 0) (trap : Trap) (site : Site) → Q false A (stop trap site)
   pub enters : (A : Type 0) (m : Run A) → Q false A m → Q true A (entered m)
-  pub event : (site : Site) (act : Act) → Q false ℤ (answered site act)
+  pub event : (site : Site) (act : Act) → (apart ≡ true → taken_to_free act ≡ false) → Q false ℤ (answered site act)
   pub events : Q false _ (looks_at (λ s. s.events))
   pub values : Q false (ℕ → ℤ) (looks_at value_of)
   pub trace : (u : Use) (token : ℕ) (site : Site) → Q false (Unit {0}) (traces u token site)
   pub frame : (f : Frame → Frame) → Q false (Unit {0}) (λ s. go tt (record s { frame = f s.frame }))
-  pub given : (more : List GivenUp) → Q false (Unit {0}) (gives_up more)
+  pub given : (more : List GivenUp) → (apart ≡ true → AllByRecursion NotEmptied more) → Q false (Unit {0}) (gives_up more)
   pub binds : (A B : Type 0) (m : Run A) (f : A → Run B) → Q false A m → ((x : A) → Q false B (f x)) → Q false B (m >>= f)
   pub scope : (A : Type 0) (m : Run A) → Q false A m → Q false A (temporarily m)
   pub block : (A : Type 0) (m : Run A) → Q false A m → Q false A (in_block m)
   pub call : (A : Type 0) (n : ℕ) (m : Run A) → Q false A m → Q false A (in_frame n m)
   pub loops : (test : Run Bool) (step : Step) (body : Run Flow) → Q false Bool test → Q false (Unit {0}) step → Q true Flow body → Q false Flow (loop test step body)
+  pub frees : apart ≡ true → (m : Assignment) (s : Span) (a : Expression) (place : Run StorePlace) → Q false StorePlace place
+      → ((o : Object) (first : ℕ) → Q false CellMode (access_mode m.typed (span_of a).first (cell_at m a) o first)) → Q false (Unit {0}) (place_called m s Free a place)
 
-module _ (Q : Bool → (A : Type 0) → Run A → Type 0) (q : Closed Q) where
+module _ {apart : Bool} (Q : Bool → (A : Type 0) → Run A → Type 0) (q : Closed apart Q) where
   abbrev Keeps : {A : Type 0} → Run A → Type 0
   Keeps {A} m = Q false A m
 
@@ -34,8 +42,8 @@ module _ (Q : Bool → (A : Type 0) → Run A → Type 0) (q : Closed Q) where
   looks : (x : ℕ) → Keeps (looks_at (λ s. value_of s x))
   looks x = q.binds _ _ _ _ q.values (λ held. q.give ℤ (held x))
 
-  performs_kept : (site : Site) (act : Act) → Keeps (performs site act)
-  performs_kept site act = q.binds _ _ _ _ (q.event site act) (λ x. q.give _ tt)
+  performs_kept : (site : Site) (act : Act) → (apart ≡ true → taken_to_free act ≡ false) → Keeps (performs site act)
+  performs_kept site act other = q.binds _ _ _ _ (q.event site act other) (λ x. q.give _ tt)
 
   sets_kept : (x : ℕ) (v : ℤ) → Keeps (sets x v)
   sets_kept x v = q.frame (λ f. record f { variables = with_value f.variables x v })
@@ -47,7 +55,7 @@ module _ (Q : Bool → (A : Type 0) → Run A → Type 0) (q : Closed Q) where
   moved_kept n = q.frame (without_temporaries n)
 
   drops_kept : (kind : Kind) (v : ℤ) → Keeps (drops kind v)
-  drops_kept kind v = either (is_reference kind) _ _ _ (q.given _) (q.give _ tt)
+  drops_kept kind v = either (is_reference kind) _ _ _ (q.given _ (λ _. (tt, tt))) (q.give _ tt)
 
   holds_kept : (kind : Kind) (v : ℤ) → Keeps (holds kind v)
   holds_kept kind v = either (is_reference kind) _ _ _ (held_kept v) (q.give _ tt)
@@ -95,7 +103,7 @@ module _ (Q : Bool → (A : Type 0) → Run A → Type 0) (q : Closed Q) where
   -- ---- accesses
   guarding_kept : (site : Site) (g : Guard) → Keeps (guarding site g)
   guarding_kept site (mutex c) = q.give _ _
-  guarding_kept site (behind c) = q.binds _ _ _ _ (q.event site (Act.Read c Readonly)) (λ p. q.binds _ _ _ _ (unless (not (is_null p)) Trap.NullPointer site) (λ _. q.give _ (cell_of (Made (number_of p)) 0)))
+  guarding_kept site (behind c) = q.binds _ _ _ _ (q.event site (Act.Read c Readonly) (λ _. refl)) (λ p. q.binds _ _ _ _ (unless (not (is_null p)) Trap.NullPointer site) (λ _. q.give _ (cell_of (Made (number_of p)) 0)))
   guarding_kept site no_mutex = q.stop _ _ site
 
   mode_kept : (r : Resolution) (site : Site) (mode : Sharing) (o : Object) (first : ℕ) → Keeps (access_mode r site mode o first)
@@ -104,23 +112,27 @@ module _ (Q : Bool → (A : Type 0) → Run A → Type 0) (q : Closed Q) where
 
   fetched_kept : (r : Resolution) (site : Site) (mode : Sharing) (p : StorePlace) → Keeps (fetched r site mode p)
   fetched_kept r site mode (variable x) = reads_kept site x
-  fetched_kept r site mode (cell o first c) = q.binds _ _ _ _ (mode_kept r site mode o first) (λ under. q.event site (Act.Read (cell_of o c) under))
+  fetched_kept r site mode (cell o first c) = q.binds _ _ _ _ (mode_kept r site mode o first) (λ under. q.event site (Act.Read (cell_of o c) under) (λ _. refl))
 
   stored_kept : (r : Resolution) (site : Site) (kind : Kind) (mode : Sharing) (p : StorePlace) (v : ℤ) → Keeps (stored r site kind mode p v)
   stored_kept r site kind mode (variable x) v = q.binds _ _ _ _ (looks x) (λ old. q.binds _ _ _ _ (writes_kept site x v) (λ _. drops_kept kind old))
   stored_kept r site kind mode (cell o first c) v = q.binds _ _ _ _ (holds_kept kind v) (λ _. q.binds _ _ _ _ (mode_kept r site mode o first) (λ under.
-      q.binds _ _ _ _ (performs_kept site (Act.Write (cell_of o c) under v)) (λ _. q.binds _ _ _ _ (moves_kept kind) (λ _. either (is_pointer kind) _ _ _ (q.given (Replaced (cell_of o c) ∷ [])) (q.give _ tt)))))
+      q.binds _ _ _ _ (performs_kept site (Act.Write (cell_of o c) under v) (λ _. refl)) (λ _. q.binds _ _ _ _ (moves_kept kind) (λ _. either (is_pointer kind) _ _ _ (q.given (Replaced (cell_of o c) ∷ []) (λ _. (tt, tt))) (q.give _ tt)))))
 
-  taken_kept : (r : Resolution) (token site : Site) (mode : Sharing) (kind : TakeKind) (p : StorePlace) → Keeps (taken_from r token site mode kind p)
-  taken_kept r token site mode kind (variable x) = q.binds _ _ _ _ (looks x) (λ v. q.binds _ _ _ _ (either (is_null v) _ _ _ (q.give _ v) (q.event site (Act.Take (Taken.Local x) kind))) (λ _.
+  -- taken for this, which is not to free it where a `free` stands apart
+  abbrev Stays : TakeKind → Type 0
+  Stays kind = (taken : Taken) → apart ≡ true → taken_to_free (Act.Take taken kind) ≡ false
+
+  taken_kept : (r : Resolution) (token site : Site) (mode : Sharing) (kind : TakeKind) (p : StorePlace) → Stays kind → Keeps (taken_from r token site mode kind p)
+  taken_kept r token site mode kind (variable x) other = q.binds _ _ _ _ (looks x) (λ v. q.binds _ _ _ _ (either (is_null v) _ _ _ (q.give _ v) (q.event site (Act.Take (Taken.Local x) kind) (other (Taken.Local x)))) (λ _.
       q.binds _ _ _ _ (q.binds _ _ _ _ (q.trace nulls x token) (λ _. sets_kept x NULL)) (λ _. q.give _ v)))
-  taken_kept r token site mode kind (cell o first c) = q.binds _ _ _ _ (mode_kept r site mode o first) (λ under. q.event site (Act.Take (Taken.Cell (cell_of o c) under) kind))
+  taken_kept r token site mode kind (cell o first c) other = q.binds _ _ _ _ (mode_kept r site mode o first) (λ under. q.event site (Act.Take (Taken.Cell (cell_of o c) under) kind) (other (Taken.Cell (cell_of o c) under)))
 
   cast_kept : (r : Resolution) (site : Site) (mode : Sharing) (v : ℤ) → Keeps (cast_to r site mode v)
-  cast_kept r site mode v = q.binds _ _ _ _ (held_kept v) (λ _. q.binds _ _ _ _ q.values (λ held. q.binds _ _ _ _ (performs_kept site (Act.Give v (instance_mode r held mode))) (λ _. q.binds _ _ _ _ (moved_kept 1) (λ _. q.give _ v))))
+  cast_kept r site mode v = q.binds _ _ _ _ (held_kept v) (λ _. q.binds _ _ _ _ q.values (λ held. q.binds _ _ _ _ (performs_kept site (Act.Give v (instance_mode r held mode)) (λ _. refl)) (λ _. q.binds _ _ _ _ (moved_kept 1) (λ _. q.give _ v))))
 
-  freed_kept : (site : Site) (v : ℤ) → Keeps (freed site v)
-  freed_kept site v = q.binds _ _ _ _ (q.given (Emptied (number_of v) ∷ [])) (λ _. q.binds _ _ _ _ (held_kept v) (λ _. q.binds _ _ _ _ (performs_kept site (Act.Freed v)) (λ _. moved_kept 1)))
+  freed_kept : (apart ≡ true → ⊥) → (site : Site) (v : ℤ) → Keeps (freed site v)
+  freed_kept within site v = q.binds _ _ _ _ (q.given (Emptied (number_of v) ∷ []) (λ k. absurd (within k))) (λ _. q.binds _ _ _ _ (held_kept v) (λ _. q.binds _ _ _ _ (performs_kept site (Act.Freed v) (λ _. refl)) (λ _. moved_kept 1)))
 
   -- ---- mutexes and condition variables
   moves_base_kept : (p : StorePlace) → Keeps (moves_base p)
@@ -128,28 +140,28 @@ module _ (Q : Bool → (A : Type 0) → Run A → Type 0) (q : Closed Q) where
   moves_base_kept _ = q.give _ tt
 
   gives_up_base_kept : (p : StorePlace) → Keeps (gives_up_base p)
-  gives_up_base_kept (cell (Made n) first c) = q.given (Released n ∷ [])
+  gives_up_base_kept (cell (Made n) first c) = q.given (Released n ∷ []) (λ _. (tt, tt))
   gives_up_base_kept _ = q.give _ tt
 
   lock_kept : (site : Site) (p : StorePlace) → Keeps (lock_call site p)
   lock_kept site p = q.binds _ _ _ _ q.events (λ own. q.binds _ _ _ _ (unless (not (holds_mutex own (cell_at_place p))) Trap.MutexAlreadyHeld site) (λ _.
-      q.binds _ _ _ _ (unless (nat_lt (length (held_mutexes own)) 16) Trap.TooManyLocks site) (λ _. q.binds _ _ _ _ (performs_kept site (Act.Lock (cell_at_place p))) (λ _. moves_base_kept p))))
+      q.binds _ _ _ _ (unless (nat_lt (length (held_mutexes own)) 16) Trap.TooManyLocks site) (λ _. q.binds _ _ _ _ (performs_kept site (Act.Lock (cell_at_place p)) (λ _. refl)) (λ _. moves_base_kept p))))
 
   unlock_kept : (site : Site) (p : StorePlace) → Keeps (unlock_call site p)
   unlock_kept site p = q.binds _ _ _ _ q.events (λ own. q.binds _ _ _ _ (unless (holds_mutex own (cell_at_place p)) Trap.MutexNotHeld site) (λ _.
-      q.binds _ _ _ _ (performs_kept site (Act.Unlock (cell_at_place p))) (λ _. gives_up_base_kept p)))
+      q.binds _ _ _ _ (performs_kept site (Act.Unlock (cell_at_place p)) (λ _. refl)) (λ _. gives_up_base_kept p)))
 
   wait_kept : (site : Site) (c m : ℤ) → Keeps (wait_call site c m)
   wait_kept site c m = q.binds _ _ _ _ (unless (not (is_null c)) Trap.NullPointer site) (λ _. q.binds _ _ _ _ (unless (not (is_null m)) Trap.NullPointer site) (λ _. q.binds _ _ _ _ q.events (λ own.
-      q.binds _ _ _ _ (unless (holds_mutex own (cell_at_place (pointee m))) Trap.MutexNotHeld site) (λ _. q.binds _ _ _ _ (performs_kept site (Act.Enter (cell_at_place (pointee c)))) (λ _.
-      q.binds _ _ _ _ (performs_kept site (Act.Unlock (cell_at_place (pointee m)))) (λ _. q.binds _ _ _ _ (held_kept m) (λ _. q.binds _ _ _ _ (performs_kept site (Act.Woken (cell_at_place (pointee c)))) (λ _.
-      q.binds _ _ _ _ (performs_kept site (Act.Lock (cell_at_place (pointee m)))) (λ _. moved_kept 1)))))))))
+      q.binds _ _ _ _ (unless (holds_mutex own (cell_at_place (pointee m))) Trap.MutexNotHeld site) (λ _. q.binds _ _ _ _ (performs_kept site (Act.Enter (cell_at_place (pointee c))) (λ _. refl)) (λ _.
+      q.binds _ _ _ _ (performs_kept site (Act.Unlock (cell_at_place (pointee m))) (λ _. refl)) (λ _. q.binds _ _ _ _ (held_kept m) (λ _. q.binds _ _ _ _ (performs_kept site (Act.Woken (cell_at_place (pointee c))) (λ _. refl)) (λ _.
+      q.binds _ _ _ _ (performs_kept site (Act.Lock (cell_at_place (pointee m))) (λ _. refl)) (λ _. moved_kept 1)))))))))
 
   signal_kept : (site : Site) (c : ℤ) → Keeps (signal_call site c)
-  signal_kept site c = q.binds _ _ _ _ (unless (not (is_null c)) Trap.NullPointer site) (λ _. q.binds _ _ _ _ (q.event site (Act.Signal (cell_at_place (pointee c)))) (λ _. q.give _ tt))
+  signal_kept site c = q.binds _ _ _ _ (unless (not (is_null c)) Trap.NullPointer site) (λ _. q.binds _ _ _ _ (q.event site (Act.Signal (cell_at_place (pointee c))) (λ _. refl)) (λ _. q.give _ tt))
 
   broadcast_kept : (site : Site) (c : ℤ) → Keeps (broadcast_call site c)
-  broadcast_kept site c = q.binds _ _ _ _ (unless (not (is_null c)) Trap.NullPointer site) (λ _. performs_kept site (Act.Broadcast (cell_at_place (pointee c))))
+  broadcast_kept site c = q.binds _ _ _ _ (unless (not (is_null c)) Trap.NullPointer site) (λ _. performs_kept site (Act.Broadcast (cell_at_place (pointee c))) (λ _. refl))
 
   condition_kept : (site : Site) (name : List ℕ) (vs : List ℤ) → Keeps (condition_call site name vs)
   condition_kept site name vs = either (bytes_eq name (codes "wait")) _ _ _ (wait_kept site (slice_index_or vs 0 NULL) (slice_index_or vs 1 NULL))
@@ -180,21 +192,31 @@ module _ (Q : Bool → (A : Type 0) → Run A → Type 0) (q : Closed Q) where
 
   spawned_kept : (r : Resolution) (site : Site) (f : Named) (a : Expression) (of_a : Run ℤ) → Keeps of_a → Keeps (spawned r site f a of_a)
   spawned_kept r site f a of_a h = q.scope _ _ (q.binds _ _ _ _ (passed_kept r (declared_kinds (parameters_named r f)) a of_a h) (λ v.
-      q.binds _ _ _ _ (q.event site (Act.Spawn (number_named f) v)) (λ t. q.binds _ _ _ _ (moves_kept (kind_at r a)) (λ _. q.give _ t))))
+      q.binds _ _ _ _ (q.event site (Act.Spawn (number_named f) v) (λ _. refl)) (λ t. q.binds _ _ _ _ (moves_kept (kind_at r a)) (λ _. q.give _ t))))
+
+  other_act : (w : ValueCall) (v : ℤ) → taken_to_free (value_act w v) ≡ false
+  other_act Join v = refl
+  other_act Print v = refl
 
   value_called_kept : (site : Site) (w : ValueCall) (of_a : Run ℤ) → Keeps of_a → Keeps (value_called site w of_a)
-  value_called_kept site w of_a h = q.binds _ _ _ _ h (λ v. q.binds _ _ _ _ (performs_kept site (value_act w v)) (λ _. q.give _ (pos 0)))
+  value_called_kept site w of_a h = q.binds _ _ _ _ h (λ v. q.binds _ _ _ _ (performs_kept site (value_act w v) (λ _. other_act w v)) (λ _. q.give _ (pos 0)))
 
-  taking_kept : (m : Assignment) (s : Span) (kind : TakeKind) (a : Expression) (place : Run StorePlace) → Keeps place → Keeps (taking m s kind a place)
-  taking_kept m s kind a place h = q.scope _ _ (q.binds _ _ _ _ h (λ p. taken_kept m.typed s.first (span_of a).first (cell_at m a) kind p))
+  taking_kept : (m : Assignment) (s : Span) (kind : TakeKind) (a : Expression) (place : Run StorePlace) → Stays kind → Keeps place → Keeps (taking m s kind a place)
+  taking_kept m s kind a place other h = q.scope _ _ (q.binds _ _ _ _ h (λ p. taken_kept m.typed s.first (span_of a).first (cell_at m a) kind p other))
+
+  free_kept : (b : Bool) → apart ≡ b → (m : Assignment) (s : Span) (a : Expression) (place : Run StorePlace) → Keeps place → Keeps (place_called m s Free a place)
+  free_kept true is m s a place h = q.frees is m s a place h (λ o first. mode_kept m.typed (span_of a).first (cell_at m a) o first)
+  free_kept false is m s a place h =
+      let within : apart ≡ true → ⊥ = λ k. cc in
+      q.binds _ _ _ _ (taking_kept m s ToFree a place (λ _ k. absurd (within k)) h) (λ v. either (is_null v) _ _ _ (q.give _ tt) (freed_kept within (span_of a).first v))
 
   place_called_kept : (m : Assignment) (s : Span) (w : PlaceCall) (a : Expression) (place : Run StorePlace) → Keeps place → Keeps (place_called m s w a place)
   place_called_kept m s Lock a place h = q.scope _ _ (q.binds _ _ _ _ h (λ p. lock_kept s.first p))
   place_called_kept m s Unlock a place h = q.scope _ _ (q.binds _ _ _ _ h (λ p. unlock_kept s.first p))
-  place_called_kept m s Free a place h = q.binds _ _ _ _ (taking_kept m s ToFree a place h) (λ v. either (is_null v) _ _ _ (q.give _ tt) (freed_kept (span_of a).first v))
+  place_called_kept m s Free a place h = free_kept apart refl m s a place h
 
   cast_value_kept : (m : Assignment) (s : Span) (a : Expression) (place : Run StorePlace) → Keeps place → Keeps (cast_value m s a place)
-  cast_value_kept m s a place h = q.binds _ _ _ _ (taking_kept m s Cast a place h) (λ v. either (is_null v) _ _ _ (q.give _ v) (cast_kept m.typed (span_of a).first (pointed m (Some (cast_row m.typed s))) v))
+  cast_value_kept m s a place h = q.binds _ _ _ _ (taking_kept m s Cast a place (λ _ _. refl) h) (λ v. either (is_null v) _ _ _ (q.give _ v) (cast_kept m.typed (span_of a).first (pointed m (Some (cast_row m.typed s))) v))
 
   place_value_kept : (m : Assignment) (e : Expression) (place : Run StorePlace) → Keeps place → Keeps (place_value m e place)
   place_value_kept m e place h = q.scope _ _ (q.binds _ _ _ _ h (λ p. fetched_kept m.typed (span_of e).first (cell_at m e) p))
@@ -261,7 +283,7 @@ module _ (Q : Bool → (A : Type 0) → Run A → Type 0) (q : Closed Q) where
     right_kept : (kind : Kind) (target : Sharing) (x : Right) → Keeps (right_value on_call m kind target x)
     right_kept kind target (value e) = fitting_kept kind e (eval on_call m e) (value_kept e)
     right_kept kind target (malloc s n w) = q.eases _ _ (q.enters _ _ (q.binds _ _ _ _ (elements_kept n) (λ elements. q.binds _ _ _ _ (unless (is_positive elements) Trap.SizeNotPositive s.first) (λ _.
-        q.binds _ _ _ _ q.values (λ held. q.event s.first (Act.New (element_cells m.typed (declared_kind w)) (unsigned_abs elements) (instance_mode m.typed held target)))))))
+        q.binds _ _ _ _ q.values (λ held. q.event s.first (Act.New (element_cells m.typed (declared_kind w)) (unsigned_abs elements) (instance_mode m.typed held target)) (λ _. refl))))))
 
     simple_kept : (x : Simple) → Keeps (done_simple on_call m x)
     simple_kept (assign s u x) = q.scope _ _ (q.binds _ _ _ _ (q.eases _ _ (place_kept (span_of u).first u)) (λ p. q.binds _ _ _ _ (right_kept (kind_at m.typed u) (pointed m (row_at m.typed u)) x) (λ v.
@@ -330,7 +352,7 @@ module _ (Q : Bool → (A : Type 0) → Run A → Type 0) (q : Closed Q) where
 
   away_kept : (name site : Site) → Keeps (goes_away name site)
   away_kept name site = q.binds _ _ _ _ q.events (λ own. q.binds _ _ _ _ (unless (not (nat_lt 0 (length (held_mutexes own)))) Trap.ReturnWithLockHeld site) (λ _.
-      q.binds _ _ _ _ (performs_kept name Act.Return) (λ _. performs_kept name Act.Gone)))
+      q.binds _ _ _ _ (performs_kept name Act.Return (λ _. refl)) (λ _. performs_kept name Act.Gone (λ _. refl))))
 
   pub thread_kept : (m : Assignment) (f : Option Function) (v : ℤ) → Keeps (run_thread m f v)
   thread_kept m None v = q.give _ tt

@@ -59,21 +59,22 @@ counts_back : {A : Type 0} (n : ℕ) (caller : Frame) (others : List Frame) (o :
 counts_back n caller others (go x t) h = h
 counts_back n caller others (over o t) h = h
 
-pub counting : Closed Counting
+pub counting : Closed false Counting
 counting = record {
   eases = λ A m h. h;
   give = λ A x s. refl;
   stop = λ A trap site s. (refl, tt);
   enters = λ A m h s. counts_entered s.fuel m s h;
-  event = λ site act s. counts_event s.answers site act s refl;
+  event = λ site act _ s. counts_event s.answers site act s refl;
   events = λ s. refl;
   values = λ s. refl;
   trace = λ u token site s. refl;
   frame = λ f s. refl;
-  given = λ more s. refl;
+  given = λ more _ s. refl;
   binds = λ A B m g hm hg s. counts_then (both s) (m s) g (hm s) (λ x t e. counts_at (both s) t (g x) (hg x) e);
   scope = λ A m h s. counts_temporaries (both s) (length s.frame.temporaries) (m s) (h s);
   block = λ A m h s. counts_variables (both s) (length s.frame.variables) (m s) (h s);
   call = λ A n m h s. counts_back (both s) (without_temporaries n s.frame) s.callers (m (with_frame (without_temporaries n s.frame) s)) (h (with_frame (without_temporaries n s.frame) s));
   loops = λ test step body ht hs hb s. counts_turns s.fuel (both s) test step body ht hs hb s refl;
+  frees = λ apart m s a place _ _ t. absurd (cc);
 }

@@ -141,21 +141,22 @@ module _ (d : ℕ) (ys : List ℤ) where
       same caller others (go x s) = record { more = []; events = refl; trace = refl; given = sym (append-nil s.given_up) }
       same caller others (over o s) = record { more = []; events = refl; trace = refl; given = sym (append-nil s.given_up) }
 
-  pub going : Closed Going
+  pub going : Closed false Going
   going = record {
     eases = λ A m h. h;
     give = λ A x. (growing.give A x, λ s. refl);
     stop = λ A trap site. (growing.stop A trap site, λ s. record { grows = grows_refl s; comes = tt; same = λ n. refl });
     enters = λ A m h. (growing.enters A m h.0, λ s. goes_entered s.fuel m s h);
-    event = λ site act. (growing.event site act, λ s. goes_event s.answers site act s);
+    event = λ site act other. (growing.event site act other, λ s. goes_event s.answers site act s);
     events = (growing.events, λ s. refl);
     values = (growing.values, λ s. refl);
     trace = λ u token site. (growing.trace u token site, λ s. refl);
     frame = λ f. (growing.frame f, λ s. refl);
-    given = λ more. (growing.given more, λ s. refl);
+    given = λ more other. (growing.given more other, λ s. refl);
     binds = λ A B m g hm hg. (growing.binds A B m g hm.0 (λ x. (hg x).0), λ s. goes_then (m s) (m (with_more d ys s)) g g (hm.1 s) (λ x. (hg x).0) (λ x t. (hg x).1 t));
     scope = λ A m h. (growing.scope A m h.0, λ s. goes_temporaries (length s.frame.temporaries) (m s) (m (with_more d ys s)) (h.1 s));
     block = λ A m h. (growing.block A m h.0, λ s. goes_variables (length s.frame.variables) (m s) (m (with_more d ys s)) (h.1 s));
     call = λ A n m h. (growing.call A n m h.0, λ s. goes_back (without_temporaries n s.frame) s.callers (m (with_frame (without_temporaries n s.frame) s)) (m (with_more d ys (with_frame (without_temporaries n s.frame) s))) (h.1 (with_frame (without_temporaries n s.frame) s)));
     loops = λ test step body ht hs hb. (growing.loops test step body ht.0 hs.0 hb.0, λ s. goes_turns s.fuel test step body ht hs hb s);
+    frees = λ apart m s a place _ _. absurd (cc);
   }

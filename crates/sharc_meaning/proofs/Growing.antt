@@ -93,21 +93,22 @@ pub grows_back : {A : Type 0} (s : State) (caller : Frame) (others : List Frame)
 grows_back s caller others (go x t) h = h
 grows_back s caller others (over o t) h = h
 
-pub growing : Closed Growing
+pub growing : Closed false Growing
 growing = record {
   eases = λ A m h. h;
   give = λ A x s. grows_refl s;
   stop = λ A trap site s. grows_refl s;
   enters = λ A m h s. grows_entered s.fuel m s h;
-  event = λ site act s. grows_event s.answers site act s;
+  event = λ site act _ s. grows_event s.answers site act s;
   events = λ s. grows_refl s;
   values = λ s. grows_refl s;
   trace = λ u token site s. record { events = prefix_refl s.events; trace = (record { use_made = u; variable = token; site = site; call = s.frame.call } ∷ [], refl); given = λ _. prefix_refl s.given_up };
   frame = λ f s. record { events = prefix_refl s.events; trace = prefix_refl s.trace; given = λ _. prefix_refl s.given_up };
-  given = λ more s. record { events = prefix_refl s.events; trace = prefix_refl s.trace; given = λ _. (more, refl) };
+  given = λ more _ s. record { events = prefix_refl s.events; trace = prefix_refl s.trace; given = λ _. (more, refl) };
   binds = λ A B m g hm hg s. grows_then s (m s) g (hm s) hg;
   scope = λ A m h s. grows_temporaries s (length s.frame.temporaries) (m s) (h s);
   block = λ A m h s. grows_variables s (length s.frame.variables) (m s) (h s);
   call = λ A n m h s. grows_back s (without_temporaries n s.frame) s.callers (m (with_frame (without_temporaries n s.frame) s)) (h (with_frame (without_temporaries n s.frame) s));
   loops = λ test step body ht hs hb s. grows_turns s.fuel test step body ht hs hb s;
+  frees = λ apart m s a place _ _ t. absurd (cc);
 }

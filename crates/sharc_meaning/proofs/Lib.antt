@@ -3,12 +3,14 @@ mod Asking
 mod Closed
 mod Counting
 mod Extending
+mod Freeing
 mod Going
 mod Growing
-mod GrowingWith
+mod Last
 mod Legal
 mod Obeying
 mod Resting
 mod Running
+mod Settled
 mod Spending
 pub mod Moded

@@ -67,23 +67,24 @@ spends_back : {A : Type 0} (f : ℕ) (caller : Frame) (others : List Frame) (o :
 spends_back f caller others (go x s) h = h
 spends_back f caller others (over o s) h = h
 
-pub spending : Closed Spending
+pub spending : Closed false Spending
 spending = record {
   eases = λ A m h f s le. eased f (m s) (h f s le);
   give = λ A x f s le. le;
   stop = λ A trap site f s le e. absurd (cc);
   enters = λ A m h f s le. spends_entered s.fuel f m s h refl le;
-  event = λ site act f s le. spends_event s.answers site act f s le;
+  event = λ site act _ f s le. spends_event s.answers site act f s le;
   events = λ f s le. le;
   values = λ f s le. le;
   trace = λ u token site f s le. le;
   frame = λ g f s le. le;
-  given = λ more f s le. le;
+  given = λ more _ f s le. le;
   binds = λ A B m g hm hg f s le. spends_then f (m s) g (hm f s le) (λ x t lt. hg x f t lt);
   scope = λ A m h f s le. spends_temporaries f (length s.frame.temporaries) (m s) (h f s le);
   block = λ A m h f s le. spends_variables f (length s.frame.variables) (m s) (h f s le);
   call = λ A n m h f s le. spends_back f (without_temporaries n s.frame) s.callers (m (with_frame (without_temporaries n s.frame) s)) (h f (with_frame (without_temporaries n s.frame) s) le);
   loops = λ test step body ht hs hb f s le. spends_turns s.fuel f test step body ht hs hb s (omega arith) le;
+  frees = λ apart m s a place _ _ f t le. absurd (cc);
 }
 
 ended_spent : {A : Type 0} (f : ℕ) (o : Out A) (s : State) → Spends false f o → o ≡ over spent s → s.fuel ≡ 0

@@ -2,6 +2,7 @@ pub mod Arithmetic
 pub mod Cells
 pub mod Events
 pub mod Expressions
+pub mod Frees
 pub mod Laws
 pub mod Meaning
 pub mod Obeys

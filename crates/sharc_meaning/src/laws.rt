@@ -1,5 +1,6 @@
 // Laws of the definitions. A proof above has them where its function calls one of these.
 
+ghost use Rattle.sharc_meaning.specs.Frees.{EmptiedWereTaken, FreesFollow};
 ghost use Rattle.sharc_meaning.specs.Laws.{AskLaws, ModesAlone, ReferenceLaws, RunLaws, StoreLaws};
 
 /// What a thread asks for goes on where there is more fuel or there are more answers, and changes only where it ended
@@ -32,4 +33,12 @@ pub fn mode_laws()
 /// object are those with this fuel; and each reference is one with every fuel from some fuel on.
 pub fn reference_laws()
     ensures { ReferenceLaws }
+{}
+
+/// What a thread takes to free it, it frees by its next event; where it wants that event, it has given up what the
+/// pointer cells of that hold. And where it has given up the cells of an object since its last event, that event took
+/// the object to free it.
+pub fn free_laws()
+    ensures follow { FreesFollow }
+    ensures emptied { EmptiedWereTaken }
 {}

@@ -1,12 +1,9 @@
 mod Imports
 mod Calls
-mod Closed
 mod Counts
 mod Expressions
-mod Freeing
 mod Held
 mod Runs
-mod Settled
 mod Statements
 mod Steps
 mod Taken

@@ -1,5 +1,5 @@
 -- A live object that a `free` has taken is being taken: the thread that took it has no later event, and frees it next.
-use Rattle.sharc_wants_laws.proofs.{Imports.{◌≡◌, ◌⊎◌, inl, inr, ℕ, Bool, true, false, not, ◌&&◌, ◌||◌, cond, List, [], ◌∷◌, ◌++◌, map, reverse, Option, Some, None, refl, sym, ap, ◌∙◌, subst, append_assoc, both_ways, and_parts, or_parts, or_left, or_right, or_cases, eqb-true, eq-eqb, map-append, reverse-append, reverse-reverse, filter-append, list_any-append, ℤ, ◌==◌, find, filter, list_any, Started, Freed, Made, SourceEvent, Assignment, Stands, is_of, events_of, makes, frees, freed_by, is_number, is_null, number_of, refers, taken_to_free, takes_to_free, Begun, asked_with, by, answers_of, meets, is_live, takes_something, EmptiesAtNext, FreesFollowIn, IsBeingTaken, TakenAreBeingTaken, LastTakersFree, EmptiersTookLast, no_null}, Freeing.{frees_follow, emptied_were_taken}}
+use Rattle.sharc_wants_laws.proofs.Imports.{◌≡◌, ◌⊎◌, inl, inr, ℕ, Bool, true, false, not, ◌&&◌, ◌||◌, cond, List, [], ◌∷◌, ◌++◌, map, reverse, Option, Some, None, refl, sym, ap, ◌∙◌, subst, append_assoc, both_ways, and_parts, or_parts, or_left, or_right, or_cases, eqb-true, eq-eqb, map-append, reverse-append, reverse-reverse, filter-append, list_any-append, ℤ, ◌==◌, find, filter, list_any, Started, Freed, Made, SourceEvent, Assignment, Stands, is_of, events_of, makes, frees, freed_by, is_number, is_null, number_of, refers, taken_to_free, takes_to_free, Begun, asked_with, by, answers_of, meets, is_live, takes_something, EmptiesAtNext, FreesFollowIn, IsBeingTaken, TakenAreBeingTaken, LastTakersFree, EmptiersTookLast, no_null, FreesFollow, EmptiedWereTaken}
 use Rattle.sharc_meaning.specs.Runs as Runs
 
 -- ---- lists
@@ -117,7 +117,7 @@ some_event (x ∷ xs) ys e h = absurd (cc)
 own_begun : (m : Assignment) (R : List SourceEvent) (thread : ℕ) (b : Begun m R thread) → events_of thread R ≡ b.own.begins ∷ events_of thread b.own.after
 own_begun m R thread b = ap (events_of thread) b.own.stands ∙ own_events thread b.own.before b.own.begins b.own.after b.own.own ∙ ap (λ l. l ++ b.own.begins ∷ events_of thread b.own.after) b.own.first
 
-module _ (m : Assignment) (R : List SourceEvent) (n : ℕ) (live : is_live R (Made n) ≡ true) (e : SourceEvent) (taken : takes_to_free (Made n) e ≡ true) (at : Latest (made_or_taken n) (reverse R) e) where
+module _ (follows : FreesFollow) (m : Assignment) (R : List SourceEvent) (n : ℕ) (live : is_live R (Made n) ≡ true) (e : SourceEvent) (taken : takes_to_free (Made n) e ≡ true) (at : Latest (made_or_taken n) (reverse R) e) where
   abbrev kind : taken_to_free e.act ≡ true
   kind = (and_parts (taken_to_free e.act) (refers n e.answer) taken).0
 
@@ -160,7 +160,7 @@ module _ (m : Assignment) (R : List SourceEvent) (n : ℕ) (live : is_live R (Ma
         own_there e.thread asked behind.0 e later (b.own.asked ∙ behind.1)
 
     follow : FreesFollowIn (asked_with b b.fuel)
-    follow = frees_follow m b.own.function b.own.argument (answers_of (events_of e.thread b.own.after)) b.fuel
+    follow = follows m b.own.function b.own.argument (answers_of (events_of e.thread b.own.after)) b.fuel
 
     takes : (d : SourceEvent) → by e.thread d ≡ e → takes_something d ≡ true
     takes d is = subst (λ (z : SourceEvent). takes_something z ≡ true) (sym is) (ap (λ b. b && not (is_null e.answer)) kind ∙ some)
@@ -193,19 +193,19 @@ module _ (m : Assignment) (R : List SourceEvent) (n : ℕ) (live : is_live R (Ma
     empties = λ b. (at_last b).0;
   }
 
-pub taken_are_being_taken : TakenAreBeingTaken
-taken_are_being_taken m R n live taken = by_event (find (made_or_taken n) (reverse R)) refl taken
+pub taken_are_being_taken : FreesFollow → TakenAreBeingTaken
+taken_are_being_taken follows m R n live taken = by_event (find (made_or_taken n) (reverse R)) refl taken
   where
     by_event : (o : Option SourceEvent) → find (made_or_taken n) (reverse R) ≡ o → meets (takes_to_free (Made n)) o ≡ true → IsBeingTaken m R n
     by_event None is h = absurd (cc)
-    by_event (Some e) is h = being_taken m R n live e h (found (made_or_taken n) (reverse R) e is)
+    by_event (Some e) is h = being_taken follows m R n live e h (found (made_or_taken n) (reverse R) e is)
 
 -- ---- a thread whose last event takes something to free it
 refers_to : (n : ℕ) (v : ℤ) → refers n v ≡ true → (is_null v ≡ false) × (number_of v ≡ n)
 refers_to n v h = let p = and_parts (not (is_null v)) (number_of v == n) h in (no_null (is_null v) p.0, eqb-true (number_of v) n p.1)
 
-pub last_takers_free : LastTakersFree
-last_takers_free m R thread n t b = by asked_there.after refl
+pub last_takers_free : FreesFollow → LastTakersFree
+last_takers_free follows m R thread n t b = by asked_there.after refl
   where
     behind : (rest : List SourceEvent) × (events_of thread b.own.after ≡ rest ++ t.event ∷ [])
     behind = behind_first t.before [] (events_of thread b.own.after) t.event b.own.begins _ t.kind b.own.act (sym t.last ∙ own_begun m R thread b)
@@ -222,12 +222,12 @@ last_takers_free m R thread n t b = by asked_there.after refl
     by : (after : List SourceEvent) → asked_there.after ≡ after → EmptiesAtNext (asked_with b b.fuel) n
     by [] none =
         subst (EmptiesAtNext (asked_with b b.fuel)) (ap number_of answer ∙ (refers_to n t.event.answer t.refers_there).1)
-        ((frees_follow m b.own.function b.own.argument (answers_of (events_of thread b.own.after)) b.fuel).last asked_there.before asked_there.event (asked_there.stands ∙ ap (λ l. asked_there.before ++ asked_there.event ∷ l) none) takes)
+        ((follows m b.own.function b.own.argument (answers_of (events_of thread b.own.after)) b.fuel).last asked_there.before asked_there.event (asked_there.stands ∙ ap (λ l. asked_there.before ++ asked_there.event ∷ l) none) takes)
     by (d ∷ rest) more = let e : map (Runs.by thread) (d ∷ rest) ≡ [] = ap (map (Runs.by thread)) (sym more) ∙ asked_there.rest in absurd (cc)
 
-pub emptiers_took_last : EmptiersTookLast
-emptiers_took_last m R thread b fuel past before n given =
-    let w = emptied_were_taken m b.own.function b.own.argument (answers_of (events_of thread b.own.after)) fuel before n given in
+pub emptiers_took_last : EmptiedWereTaken → EmptiersTookLast
+emptiers_took_last emptied m R thread b fuel past before n given =
+    let w = emptied m b.own.function b.own.argument (answers_of (events_of thread b.own.after)) fuel before n given in
     let parts = and_parts (taken_to_free w.event.act) (not (is_null w.event.answer)) w.takes in
     record {
       before = b.own.begins ∷ map (Runs.by thread) w.before;

@@ -4,7 +4,7 @@
 //! its `free`s do.
 //!
 //! The layer above may call the laws of src/meant.rt, each the contract of a function that does nothing, and cite
-//! specs/: Held (what a thread holds is held on, or given up), Freeing (what is taken to free it is freed next).
+//! specs/: Held (what a thread holds is held on, or given up), Freeing (who has taken something frees it next).
 //!
 //! What the source wants of a thread of its code where it waits or was stopped, and which references are left where a
 //! cast was refused.

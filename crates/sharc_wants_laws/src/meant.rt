@@ -1,11 +1,11 @@
 // The laws, each the contract of a function that does nothing.
 
-ghost use Rattle.sharc_wants_laws.specs.Freeing.{EmptiedWereTaken, EmptiersTookLast, FreesFollow, LastTakersFree};
-ghost use Rattle.sharc_wants_laws.specs.{Freeing.TakenAreBeingTaken, Held.HeldAreHeldOn};
+ghost use Rattle.sharc_wants_laws.specs.{Freeing.{EmptiersTookLast, LastTakersFree, TakenAreBeingTaken}, Held.HeldAreHeldOn};
 
 use sharc_ctype_laws::laws::{
     are_plain, each_names_itself, meets_constraints, meets_statements, one_type,
 };
+use sharc_meaning::laws::free_laws;
 
 /// With more fuel and no event more, a thread of a typed program holds each reference on, or has given it up.
 pub fn held_are_held_on()
@@ -18,22 +18,19 @@ pub fn held_are_held_on()
     are_plain();
 }
 
-/// What a thread takes to free it, it frees by its next event. Where it wants that event, it has given up what the
-/// pointer cells of that hold. This goes for every program.
-pub fn frees_follow()
-    ensures { FreesFollow }
-{}
-
 /// A live object that a `free` has taken is being taken: where the thread that took it follows the program, it has no
 /// later event, and wants to free the object.
 pub fn taken_are_being_taken()
     ensures { TakenAreBeingTaken }
-{}
+{
+    free_laws();
+}
 
 /// A thread whose last event takes an object to free it wants to free the object, and holds it. And a thread that has
 /// given up the cells of an object since its last event has taken the object by that event, to free it.
 pub fn last_takers()
-    ensures emptied { EmptiedWereTaken }
     ensures free { LastTakersFree }
     ensures took { EmptiersTookLast }
-{}
+{
+    free_laws();
+}

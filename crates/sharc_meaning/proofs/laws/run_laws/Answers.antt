@@ -1,4 +1,4 @@
-use Rattle.sharc_meaning.proofs.{Extending.{runs_grow, runs_start}, GrowingWith.{runs_grow_with, last_asked}, Obeying.obeying_prefixes, Running.{run_prefixes, run_prefixes_with}}
+use Rattle.sharc_meaning.proofs.{Extending.{runs_grow, runs_grow_with, runs_start}, Last.last_asked, Obeying.obeying_prefixes, Running.{run_prefixes, run_prefixes_with}}
 use Rattle.sharc_meaning.proofs.laws.run_laws.Goals as goal
 
 pub returns : goal.returns

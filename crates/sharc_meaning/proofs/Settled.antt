@@ -1,5 +1,5 @@
 -- Runs that free what they take: from events of which none waits to be freed they come to such events, or want the event that frees what was taken last.
-use Rattle.sharc_wants_laws.proofs.{Imports.{◌≡◌, ◌⊎◌, inl, inr, ℕ, zero, suc, Bool, true, false, not, ◌&&◌, cond, List, [], ◌∷◌, ◌++◌, refl, sym, ap, ◌∙◌, subst, append_assoc, length, both_ways, AllByRecursion, ℤ, pos, drop, Act, CellAt, CellMode, Object, SourceEvent, ToFree, Site, Span, span_of, Expression, Resolution, cell_at, Assignment, Sharing, cell_of, is_null, number_of, taken_to_free, GivenUp, Emptied, Frame, State, Outcome, wants, Out, go, over, Run, Step, then_on, ◌>>◌, give, done, enters_with, happens, answered, answer_of, value_of, event_of, ends_temporaries, ends_variables, without_temporaries, all_released, pointers_among, StorePlace, variable, cell, access_mode, nulled, taken_from, freed, place_called, Flow, next, broken, returned, turns, back_in, with_frame, takes_something}, Closed.{NotEmptied, Closed}}
+use Rattle.sharc_meaning.proofs.{Imports.{◌≡◌, ◌⊎◌, inl, inr, ℕ, zero, suc, Bool, true, false, not, ◌&&◌, cond, List, [], ◌∷◌, ◌++◌, refl, sym, ap, ◌∙◌, subst, append_assoc, length, both_ways, AllByRecursion, ℤ, pos, drop, Act, CellAt, CellMode, Object, SourceEvent, ToFree, Site, Span, span_of, Expression, Resolution, cell_at, Assignment, Sharing, cell_of, is_null, number_of, taken_to_free, GivenUp, Emptied, Frame, State, Outcome, wants, Out, go, over, Run, Step, then_on, ◌>>◌, give, done, enters_with, happens, answered, answer_of, value_of, event_of, ends_temporaries, ends_variables, without_temporaries, all_released, pointers_among, StorePlace, variable, cell, access_mode, nulled, taken_from, freed, place_called, Flow, next, broken, returned, turns, back_in, with_frame, takes_something}, Closed.{NotEmptied, Closed}}
 use Rattle.sharc_tree.specs.declared.tree.expression.PlaceCall.TheVariants.{Free}
 use Rattle.sharc_tree.specs.declared.event.Taken.TheVariants as taken
 use Rattle.sharc_meaning.specs.Statements.{on_turn}
@@ -250,21 +250,22 @@ calm_free : (m : Assignment) (s : Span) (a : Expression) (place : Run StorePlace
 calm_free m s a place q access t h = calm_freed _ (span_of a).first (taken_temporaries _ _
     (taken_then (place t) _ (q t h) (λ p u hu. taken_there m.typed s.first (span_of a).first (cell_at m a) p access u hu)))
 
-pub calm : Closed Quiet
+pub calm : Closed true (λ _. Quiet)
 calm = record {
+  eases = λ A m h. h;
   give = λ A x s h. h;
   stop = λ A trap site s h. inl h;
   enters = λ A m q s h. calm_entered s.fuel m s q h;
-  event = λ site act other s h. calm_event s.answers site act s other h;
+  event = λ site act other s h. calm_event s.answers site act s (other refl) h;
   events = λ s h. h;
   values = λ s h. h;
   trace = λ u token site s h. h;
   frame = λ f s h. h;
-  given = λ more plain s h. (h.0, plain_append s.given_up more h.1 plain);
+  given = λ more plain s h. (h.0, plain_append s.given_up more h.1 (plain refl));
   binds = λ A B m g qm qg s h. calm_then (m s) g (qm s h) qg;
   scope = λ A m q s h. calm_temporaries (length s.frame.temporaries) (m s) (q s h);
   block = λ A m q s h. calm_variables (length s.frame.variables) (m s) (q s h);
   call = λ A n m q s h. calm_back (without_temporaries n s.frame) s.callers (m (with_frame (without_temporaries n s.frame) s)) (q (with_frame (without_temporaries n s.frame) s) h);
   loops = λ test step body qt qs qb s h. calm_turns s.fuel test step body qt qs qb s h;
-  frees = calm_free;
+  frees = λ _. calm_free;
 }

@@ -1,5 +1,5 @@
 -- What a `free` has taken is freed next.
-use Rattle.sharc_wants_laws.proofs.{Imports.{◌≡◌, inl, inr, ℕ, ℤ, pos, List, [], ◌∷◌, ◌++◌, length, get_or, reverse, refl, sym, ap, ◌∙◌, subst, append_assoc, both_ways, AllByRecursion, SourceEvent, function_at, GivenUp, Emptied, asked_at, asked_by, number_of, State, Outcome, Out, go, over, held_by_frame, held_references, pointers_among, FreesFollowIn, FreesFollow, WasTaken, EmptiedWereTaken}, Closed.{NotEmptied, thread_kept}, Settled.{Followed, Settled, settled_followed, pending_followed, followed_there, settled_last, pending_some, Freeing, Calm, Quiet, calm, no_emptied}}
+use Rattle.sharc_meaning.proofs.{Imports.{◌≡◌, inl, inr, ℕ, ℤ, pos, List, [], ◌∷◌, ◌++◌, length, get_or, reverse, refl, sym, ap, ◌∙◌, subst, append_assoc, both_ways, AllByRecursion, SourceEvent, function_at, GivenUp, Emptied, asked_at, asked_by, number_of, State, Outcome, Out, go, over, held_by_frame, held_references, pointers_among, FreesFollowIn, FreesFollow, WasTaken, EmptiedWereTaken}, Closed.{NotEmptied, thread_kept}, Settled.{Followed, Settled, settled_followed, pending_followed, followed_there, settled_last, pending_some, Freeing, Calm, Quiet, calm, no_emptied}}
 use Rattle.std.specs.List.{flat_map}
 use Rattle.sharc_meaning.specs.Meaning.{start}
 
@@ -55,7 +55,7 @@ calm_follow (over o s) (inl h) = settled_follow o s h.0
 calm_follow (over o s) (inr f) = freeing_follow o s f
 
 pub frees_follow : FreesFollow
-frees_follow m f argument answers fuel = calm_follow _ (thread_kept Quiet calm m (function_at m.typed f) argument (start answers fuel) (tt, tt))
+frees_follow m f argument answers fuel = calm_follow _ (thread_kept (λ _. Quiet) calm m (function_at m.typed f) argument (start answers fuel) (tt, tt))
 
 -- ---- the other way
 emptied_number : (m n : ℕ) → Emptied m ≡ Emptied n → m ≡ n
@@ -76,4 +76,4 @@ calm_taken (over o s) (inl h) before n given = absurd (no_emptied before n (subs
 calm_taken (over o s) (inr f) before n given = freeing_taken o s f before n given
 
 pub emptied_were_taken : EmptiedWereTaken
-emptied_were_taken m f argument answers fuel = calm_taken _ (thread_kept Quiet calm m (function_at m.typed f) argument (start answers fuel) (tt, tt))
+emptied_were_taken m f argument answers fuel = calm_taken _ (thread_kept (λ _. Quiet) calm m (function_at m.typed f) argument (start answers fuel) (tt, tt))
