@@ -1,5 +1,6 @@
 -- The code of an expression: after it one register more holds something, if its value is a reference.
-use Rattle.sharc_compile_laws.proofs.{Imports.{ℤ, ◌≡◌, ℕ, zero, suc, ◌+◌, ◌<◌, ◌≤◌, Bool, true, false, cond, List, [], ◌∷◌, ◌++◌, length, map, refl, ap, sym, ◌∙◌, subst, arith, Option, Some, None, codes, bytes_eq, if◌then◌else◌, false≢true, Site, Span, Identifier, FieldOperator, Dot, Arrow, BinaryOperator, LogicalOr, LogicalAnd, Equal, NotEqual, Less, Greater, LessOrEqual, GreaterOrEqual, ShiftLeft, ShiftRight, PlaceCall, Lock, Unlock, Free, Negate, Not, Complement, Dereference, span_of, Expression, identifier, constant, parentheses, call, spawn, on_value, on_place, cast, index, field, unary, binary, Arguments, no_arguments, argument, Function, Named, Kind, is_array, is_integer, element_kind, declared_kind, declared_kinds, Use, kind_at, function_at, result_kind_of, global_at, parameters_named, parameters_of, Assignment, Sharing, element_cells, field_place_named, global_elements, number_named, is_reference, Op, Spot, Flat, function_of, first_cell, Lvalue, Context, slot_of, ref_count, at_site, Target, variable, in_global, in_global_at, in_object_at, target, own_field, global_of, base_width, take_code, bounds_code, index_code, pointee_code, kind_of, is_ref, target_of, mode_of, what_names, lvalue_in, named_code, truth_code, compare_code, binary_code, behind_int, behind_ref, called_code, passed_code, place_call_code, cast_code, guard_of, taken_guard, field_code, expression_code, arguments_code, place_code, Suits, PlaceSuits, ArgumentsSuit, ReferencesSuit, NameSuits, CallSuits, FieldSuits, TakeSuits, PlaceCallSuits, OperandsSuit, Either, free, full, Fits, Slots, result_slot, Enters, Level}, Located.{width, pointers, pointers_are}, Pieces.line, Parts.{plain_integer, wide_promoted, wide_common, IsKept, kept_cell, P, B, then_do, pre, post, none, keeps, enter, null_at, values, takes, passes_kept, truths, compares, logicals, eithers, pointees, bounded, conditions, spawns, value_calls, locked_at, unlocked_at, freed_if, given_if}, Slots.{AreFit, fits_full, fits_free, below, below_full, shifted, fits_through as through}}
+use Rattle.sharc_compile_laws.proofs.{Imports.{ℤ, ◌≡◌, ℕ, zero, suc, ◌+◌, ◌<◌, ◌≤◌, Bool, true, false, cond, List, [], ◌∷◌, ◌++◌, length, map, refl, ap, sym, ◌∙◌, subst, arith, Option, Some, None, codes, bytes_eq, if◌then◌else◌, false≢true, Site, Span, Identifier, FieldOperator, Dot, Arrow, BinaryOperator, LogicalOr, LogicalAnd, Equal, NotEqual, Less, Greater, LessOrEqual, GreaterOrEqual, ShiftLeft, ShiftRight, PlaceCall, Lock, Unlock, Free, Negate, Not, Complement, Dereference, span_of, Expression, identifier, constant, parentheses, call, spawn, on_value, on_place, cast, index, field, unary, binary, Arguments, no_arguments, argument, Function, Named, Kind, is_array, is_integer, element_kind, declared_kind, declared_kinds, Use, kind_at, function_at, result_kind_of, global_at, parameters_named, parameters_of, Assignment, Sharing, element_cells, field_place_named, global_elements, number_named, is_reference, Op, Spot, Flat, function_of, first_cell, Lvalue, Context, slot_of, ref_count, at_site, Target, variable, in_global, in_global_at, in_object_at, target, own_field, global_of, base_width, take_code, bounds_code, index_code, pointee_code, kind_of, is_ref, target_of, mode_of, what_names, lvalue_in, named_code, truth_code, compare_code, binary_code, behind_int, behind_ref, called_code, passed_code, place_call_code, cast_code, guard_of, taken_guard, field_code, expression_code, arguments_code, place_code, Suits, PlaceSuits, ArgumentsSuit, ReferencesSuit, NameSuits, CallSuits, FieldSuits, TakeSuits, PlaceCallSuits, OperandsSuit, Either, free, full, Fits, Slots, result_slot, Enters, Level}, Located.{width, pointers, pointers_are}, Pieces.held, Parts.{plain_integer, wide_promoted, wide_common, IsKept, kept_cell, P, B, then_do, pre, post, none, keeps, enter, null_at, values, takes, passes_kept, truths, compares, logicals, eithers, pointees, bounded, conditions, spawns, value_calls, locked_at, unlocked_at, freed_if, given_if}, Slots.{AreFit, fits_full, fits_free, below, below_full, shifted, fits_through as through}}
+use Rattle.sharc_flat_lemmas.proofs.Flow as flow
 use Rattle.sharc_guard.specs.Level.{Slot}
 
 -- each function finds what its callers leave for it
@@ -68,7 +69,7 @@ module _ (flat : Flat) (owner : ℕ → ℕ) (f : ℕ) (m : Assignment) where
   calls_one n fn at i r spot pc =
       let k = pointers (declared_kinds fn.parameters) in
       let b = is_reference (declared_kind fn.result) in
-      line flat owner g f D (below (r + k)) pc (Op.Call n i r spot) (below (r + width b))
+      flow.line (held flat owner g f) D (below (r + k)) pc (Op.Call n i r spot) (below (r + width b))
       (λ table d own end. let e = d n fn at in (
         record {
           known = e.0;

@@ -1,5 +1,6 @@
 -- At the end of blocks their pointers are given up, in the order of their declarations.
-use Rattle.sharc_compile_laws.proofs.{Imports.{◌≡◌, ⊎_elim, ℕ, ◌+◌, ◌<◌, ◌≤◌, Bool, true, false, cond, List, [], ◌∷◌, take, drop, refl, ap, sym, ◌∙◌, subst, arith, nat_lt, cases_eq, cases_lt, nat_tests, take-append-drop, Op, Flat, ref_count, pops, ends_from, leaves, Slot, free, Fits, Slots, with_slot}, Located.count-append, Parts.{P, then_do, does}, Pieces.nothing, Slots.{fits_same, fits_free, fit_same, with_same, with_other}}
+use Rattle.sharc_compile_laws.proofs.{Imports.{◌≡◌, ⊎_elim, ℕ, ◌+◌, ◌<◌, ◌≤◌, Bool, true, false, cond, List, [], ◌∷◌, take, drop, refl, ap, sym, ◌∙◌, subst, arith, nat_lt, cases_eq, cases_lt, nat_tests, take-append-drop, Op, Flat, ref_count, pops, ends_from, leaves, Slot, free, Fits, Slots, with_slot}, Located.count-append, Parts.{P, then_do, does}, Pieces.held, Slots.{fits_same, fits_free, fit_same, with_same, with_other}}
+use Rattle.sharc_flat_lemmas.proofs.Flow as flow
 
 -- the variables that remain after blocks have ended, each of which began with this number of them
 abbrev pub kept : List Slot → List ℕ → List Slot
@@ -39,7 +40,7 @@ module _ (flat : Flat) (owner : ℕ → ℕ) (gives : ℕ → Bool) (f : ℕ) (D
 
   -- what is held outside is left
   pops_to : (s e : Slots) (r : ℕ) (xs : List Slot) → ((k : ℕ) → k < r → Fits (s k) (e k)) → ((k : ℕ) → r + ref_count xs ≤ k → Fits (s k) (e k)) → W s (pops r xs) e
-  pops_to s e r [] low high = λ pc. nothing flat owner gives f D s pc e (λ k. ⊎_elim (λ lt. low k lt) (λ ge. high k (omega (arith, ge))) (cases_lt k r))
+  pops_to s e r [] low high = λ pc. flow.nothing (held flat owner gives f) D s pc e (λ k. ⊎_elim (λ lt. low k lt) (λ ge. high k (omega (arith, ge))) (cases_lt k r))
   pops_to s e r (x ∷ rest) low high =
       by x.is_pointer high (λ h. pops_to (with_slot s r free) e (r + 1) rest (λ k lt. ⊎_elim (λ z. subst (λ y. Fits (with_slot s r free y) (e y)) (sym z) (subst (λ y. Fits y (e r)) (sym (with_same s r free)) (fits_free (e r))))
       (λ other. subst (λ y. Fits y (e k)) (sym (with_other s r free k other)) (low k (omega (arith, lt, other)))) (cases_eq k r))
@@ -57,7 +58,7 @@ module _ (flat : Flat) (owner : ℕ → ℕ) (gives : ℕ → Bool) (f : ℕ) (D
   ends_to s e scope n low high = pops_to s e (ref_count (take n scope)) (drop n scope) low (λ k ge. high k (let z = take_few scope n in omega (arith, z, ge)))
 
   pub leaves_to : (s e : Slots) (scope : List Slot) (marks : List ℕ) → ((k : ℕ) → k < ref_count (kept scope marks) → Fits (s k) (e k)) → ((k : ℕ) → ref_count scope ≤ k → Fits (s k) (e k)) → W s (leaves scope marks) e
-  leaves_to s e scope [] low high = λ pc. nothing flat owner gives f D s pc e (λ k. ⊎_elim (λ lt. low k lt) (λ ge. high k ge) (cases_lt k (ref_count scope)))
+  leaves_to s e scope [] low high = λ pc. flow.nothing (held flat owner gives f) D s pc e (λ k. ⊎_elim (λ lt. low k lt) (λ ge. high k ge) (cases_lt k (ref_count scope)))
   leaves_to s e scope (n ∷ outer) low high =
       let from = ref_count (take n scope) in
       let until = ref_count scope in

@@ -1,6 +1,5 @@
 mod Imports
 pub mod Slots
-pub mod Flow
 pub mod Pieces
 pub mod Located
 pub mod Parts

@@ -1,5 +1,6 @@
 -- The parts of the code of an expression: an access, a test, an operator, a call.
-use Rattle.sharc_compile_laws.proofs.{Imports.{◌≡◌, ⊎_elim, ℕ, ◌+◌, ◌<◌, ◌≤◌, ◌==◌, ◌&&◌, ◌||◌, eqb-true, Bool, true, false, cond, List, [], ◌∷◌, ◌++◌, length, refl, ap, ◌∙◌, subst, arith, length-append, append_assoc, Option, Some, None, codes, bytes_eq, false≢true, cases_eq, Base, Site, BinaryOperator, NotEqual, ValueCall, Join, Print, Arguments, Kind, object, long, is_long, is_integral, is_integer, is_pointer, promoted, common, Use, Cell, Register, Int, Reference, Sharing, is_reference, Op, Spot, IsWide, Flat, Lvalue, Context, slot_kind, ref_count, register_of, number_in, at_site, Target, variable, in_global, in_global_at, in_object, in_object_at, width_of, has_base, base_width, cell_of, guard_field, guard_code, drop_base, settle_base, copy_code, cell_value_code, value_code, settle_code, cell_store_code, store_code, cell_take_code, take_code, bounds_code, pointee_code, width_code, drop_code, truth_code, differ_code, compare_code, logical_code, either_code, wait_code, condition_code, with_words, argument_words, spawn_code, value_call_code, unlocked_code, passed_code, first_cell_of, is_cell, free, full, Slots, with_slot, with_moved, cell_slot, Enters, Level}, Located.{IsIn, located, width}, Pieces.{Piece, wider, wider_end, nothing, joins, step, over, over_null}, Slots.{AreFit, fit_same, fit_through, below, below_free, fit_below, none_cleared, with_same, with_other, below_more, popped, pushed, settled, taken}}
+use Rattle.sharc_compile_laws.proofs.{Imports.{◌≡◌, ⊎_elim, ℕ, ◌+◌, ◌<◌, ◌≤◌, ◌==◌, ◌&&◌, ◌||◌, eqb-true, Bool, true, false, cond, List, [], ◌∷◌, ◌++◌, length, refl, ap, ◌∙◌, subst, arith, length-append, append_assoc, Option, Some, None, codes, bytes_eq, false≢true, cases_eq, Base, Site, BinaryOperator, NotEqual, ValueCall, Join, Print, Arguments, Kind, object, long, is_long, is_integral, is_integer, is_pointer, promoted, common, Use, Cell, Register, Int, Reference, Sharing, is_reference, Op, Spot, IsWide, Flat, Lvalue, Context, slot_kind, ref_count, register_of, number_in, at_site, Target, variable, in_global, in_global_at, in_object, in_object_at, width_of, has_base, base_width, cell_of, guard_field, guard_code, drop_base, settle_base, copy_code, cell_value_code, value_code, settle_code, cell_store_code, store_code, cell_take_code, take_code, bounds_code, pointee_code, width_code, drop_code, truth_code, differ_code, compare_code, logical_code, either_code, wait_code, condition_code, with_words, argument_words, spawn_code, value_call_code, unlocked_code, passed_code, first_cell_of, is_cell, free, full, Slots, with_slot, with_moved, cell_slot, Enters, Level}, Located.{IsIn, located, width}, Pieces.{held, step}, Slots.{AreFit, fit_same, fit_through, below, below_free, fit_below, none_cleared, with_same, with_other, below_more, popped, pushed, settled, taken}}
+use Rattle.sharc_flat_lemmas.proofs.Flow as flow
 use Rattle.sharc_names.specs.Kinds.{int}
 use Rattle.sharc_names.specs.Kinds as kinds
 
@@ -37,22 +38,22 @@ kept_cell c b _ h = tt
 module _ (flat : Flat) (owner : ℕ → ℕ) (gives : ℕ → Bool) (f : ℕ) (D : (ℕ → Slots) → Type 0) where
   -- wherever it is
   abbrev pub P : Slots → List Op → Slots → Type 0
-  P s os e = (pc : ℕ) → Piece flat owner gives f D s pc os e
+  P s os e = (pc : ℕ) → flow.Piece (held flat owner gives f) D s pc os e
 
   abbrev pub B : ℕ → List Op → ℕ → Type 0
   B r os n = P (below r) os (below n)
 
   pub then_do : (s m e : Slots) (xs ys : List Op) → P s xs m → P m ys e → P s (xs ++ ys) e
-  then_do s m e xs ys p q = λ pc. joins flat owner gives f D s m e pc xs ys (p pc) (q (pc + length xs))
+  then_do s m e xs ys p q = λ pc. flow.joins (held flat owner gives f) D s m e pc xs ys (p pc) (q (pc + length xs))
 
   pub pre : (a b : ℕ) (os : List Op) (e : Slots) → a ≤ b → P (below b) os e → P (below a) os e
-  pre a b os e le p = λ pc. wider flat owner gives f D (below a) (below b) pc os e (below_more a b le) (p pc)
+  pre a b os e le p = λ pc. flow.wider (held flat owner gives f) D (below a) (below b) pc os e (below_more a b le) (p pc)
 
   pub post : (s : Slots) (os : List Op) (a b : ℕ) → a ≤ b → P s os (below a) → P s os (below b)
-  post s os a b le p = λ pc. wider_end flat owner gives f D s pc os (below a) (below b) (below_more a b le) (p pc)
+  post s os a b le p = λ pc. flow.wider_end (held flat owner gives f) D s pc os (below a) (below b) (below_more a b le) (p pc)
 
   pub none : (a b : ℕ) → a ≤ b → B a [] b
-  none a b le = λ pc. nothing flat owner gives f D (below a) pc (below b) (below_more a b le)
+  none a b le = λ pc. flow.nothing (held flat owner gives f) D (below a) pc (below b) (below_more a b le)
 
   -- one that leads to the next, where registers hold what these hold
   pub does : (s : Slots) (o : Op) (t e : Slots) → AreFit t e → ((table : ℕ → Slots) (pc : ℕ) → Enters flat owner gives table f t (pc + 1) → Level flat owner gives table pc f s o) → P s (o ∷ []) e
@@ -88,7 +89,7 @@ module _ (flat : Flat) (owner : ℕ → ℕ) (gives : ℕ → Bool) (f : ℕ) (D
 
   module _ (c : Context) where
     guards : (s : Slots) (i r : ℕ) (site : Site) (lvalue : Lvalue) (t : Target) (g : Option ℕ) → P s (guard_code c i r site lvalue t g) s
-    guards s i r site lvalue t None = λ pc. nothing flat owner gives f D s pc s (fit_same s)
+    guards s i r site lvalue t None = λ pc. flow.nothing (held flat owner gives f) D s pc s (fit_same s)
     guards s i r site lvalue t (Some mutex) = keeps s (Op.LoadGuard _ _) (λ table pc n. n)
 
     cell_values : (i r : ℕ) (site : Site) (lvalue : Lvalue) (mode : Sharing) (b : Bool) (t : Target) → B (r + base_width t) (cell_value_code c i r site lvalue mode b t) (r + width b)
@@ -167,10 +168,10 @@ module _ (flat : Flat) (owner : ℕ → ℕ) (gives : ℕ → Bool) (f : ℕ) (D
   choose s false xs ys e p q = q
 
   pub widths_kept : (s : Slots) (i : ℕ) (kind : Kind) (site : Site) → P s (width_code i kind site) s
-  widths_kept s i kind site = choose s (is_integer kind) (Op.ChkWidth _ i _ ∷ []) [] s (keeps s (Op.ChkWidth _ i _) (λ table pc n. n)) (λ pc. nothing flat owner gives f D s pc s (fit_same s))
+  widths_kept s i kind site = choose s (is_integer kind) (Op.ChkWidth _ i _ ∷ []) [] s (keeps s (Op.ChkWidth _ i _) (λ table pc n. n)) (λ pc. flow.nothing (held flat owner gives f) D s pc s (fit_same s))
 
   pub passes_kept : (s : Slots) (i : ℕ) (kinds : List Kind) (site : Site) → P s (passed_code i kinds site) s
-  passes_kept s i [] site = λ pc. nothing flat owner gives f D s pc s (fit_same s)
+  passes_kept s i [] site = λ pc. flow.nothing (held flat owner gives f) D s pc s (fit_same s)
   passes_kept s i (kind ∷ rest) site = widths_kept s i kind site
 
   pub truths : (b : Bool) (i r : ℕ) → B (r + width b) (truth_code b i r) r
@@ -186,7 +187,7 @@ module _ (flat : Flat) (owner : ℕ → ℕ) (gives : ℕ → Bool) (f : ℕ) (D
 
   differs : (s : Slots) (o : BinaryOperator) (i : ℕ) → P s (differ_code o i) s
   differs s NotEqual i = keeps s (Op.IsFalse i i) (λ table pc n. n)
-  differs s _ i = λ pc. nothing flat owner gives f D s pc s (fit_same s)
+  differs s _ i = λ pc. flow.nothing (held flat owner gives f) D s pc s (fit_same s)
 
   -- both are given up, the lower first
   pub pops_two : (r : ℕ) → B (r + 1 + 1) (Op.Pop r ∷ Op.Pop (r + 1) ∷ []) r
@@ -210,7 +211,7 @@ module _ (flat : Flat) (owner : ℕ → ℕ) (gives : ℕ → Bool) (f : ℕ) (D
   pub logicals : (i r : ℕ) (xs ys : List Op) → B r xs r → B r ys r → B r (logical_code i xs ys) r
   logicals i r xs ys p q =
       then_do (below r) (below r) (below r) xs _ p
-      (λ pc. over flat owner gives f D (below r) (below r) (below r) pc i ys (Op.IsFalse i i ∷ Op.IsFalse i i ∷ []) (fit_same (below r)) (q (pc + 1)) (ended i r (pc + 1 + length ys)))
+      (λ pc. flow.over (held flat owner gives f) D (below r) (below r) (below r) pc i ys (Op.IsFalse i i ∷ Op.IsFalse i i ∷ []) tt (fit_same (below r)) (q (pc + 1)) (ended i r (pc + 1 + length ys)))
 
   pub eithers : (i r : ℕ) (xs ys : List Op) → B r xs r → B r ys r → B r (either_code i xs ys) r
   eithers i r xs ys p q =
@@ -222,7 +223,7 @@ module _ (flat : Flat) (owner : ℕ → ℕ) (gives : ℕ → Bool) (f : ℕ) (D
       then_do (below r) (below r) (below r) xs _ p
       (before (below r) F (Op.SkipIfZero i (length ys + 1) ∷ (ys ++ (F ∷ F ∷ []))) (below r) one
       (subst (λ l. B r l r) same
-      (λ pc. over flat owner gives f D (below r) (below r) (below r) pc i (ys ++ F ∷ []) (F ∷ []) (fit_same (below r)) (then_do (below r) (below r) (below r) ys (F ∷ []) q one (pc + 1)) (one (pc + 1 + length (ys ++ F ∷ []))))))
+      (λ pc. flow.over (held flat owner gives f) D (below r) (below r) (below r) pc i (ys ++ F ∷ []) (F ∷ []) tt (fit_same (below r)) (then_do (below r) (below r) (below r) ys (F ∷ []) q one (pc + 1)) (one (pc + 1 + length (ys ++ F ∷ []))))))
 
   pub pointees : (r : ℕ) (site : Site) (xs : List Op) → B r xs (r + 1) → B r (pointee_code r site xs) (r + 1)
   pointees r site xs p = then_do (below r) (below (r + 1)) (below (r + 1)) xs (Op.ChkNull r (at_site site) ∷ []) p (keeps (below (r + 1)) (Op.ChkNull r (at_site site)) (λ table pc n. n))
@@ -321,11 +322,11 @@ module _ (flat : Flat) (owner : ℕ → ℕ) (gives : ℕ → Bool) (f : ℕ) (D
   -- what was taken, if it is not NULL
   pub freed_if : (r layout : ℕ) (spot : Spot) → B (r + 1) (Op.SkipIfNull r 1 ∷ Op.Free r layout spot ∷ []) r
   freed_if r layout spot =
-      λ pc. over_null flat owner gives f D (below (r + 1)) (below (r + 1)) (below r) pc r (Op.Free r layout spot) (fit_same (below (r + 1))) (popped r)
+      λ pc. flow.over_null (held flat owner gives f) D (below (r + 1)) (below (r + 1)) (below r) pc r (Op.Free r layout spot) tt (fit_same (below (r + 1))) (popped r)
       (does (below (r + 1)) (Op.Free r layout spot) (with_slot (below (r + 1)) r free) (below r) (popped r) (λ table q n. n) (pc + 1))
 
   pub given_if : (r cells : ℕ) (spot : Spot) → B (r + 1) (Op.SkipIfNull r 1 ∷ Op.Give r cells spot ∷ []) (r + 1)
   given_if r cells spot =
-      λ pc. over_null flat owner gives f D (below (r + 1)) (below (r + 1)) (below (r + 1)) pc r (Op.Give r cells spot) (fit_same (below (r + 1)))
+      λ pc. flow.over_null (held flat owner gives f) D (below (r + 1)) (below (r + 1)) (below (r + 1)) pc r (Op.Give r cells spot) tt (fit_same (below (r + 1)))
       (fit_through (with_slot (below (r + 1)) r free) (below r) (below (r + 1)) (popped r) (below_more r (r + 1) (omega arith)))
       (keeps (below (r + 1)) (Op.Give r cells spot) (λ table q n. n) (pc + 1))

@@ -1,16 +1,7 @@
 -- The functions of a program one after the other: what registers hold at each line of all of them.
-use Rattle.sharc_compile_laws.proofs.{Imports.{◌≡◌, ℕ, zero, suc, ◌+◌, ◌-◌, ◌<◌, ◌≤◌, Bool, true, false, cond, List, [], ◌∷◌, ◌++◌, length, map, refl, ap, sym, ◌∙◌, subst, arith, length-append, append_assoc, Some, nat_lt, false≢true, nat_tests, slice_get, slice_index_or, Declaration, Function, is_pointer, declared_kind, Row, GlobalCells, no_function, Parameter, function_at, functions_in, result_kind_of, Assignment, is_reference, Op, Flat, function_of, Context, slot_of, ref_count, at_site, ends_from, zero_code, behind_statements, statements_code, in_function, around_body, function_code, functions_code, parameter_of, refs_of, AreRows, StatementsSuit, free, full, Fits, Slots, Level, Takes, FlattenedIsLevel, same_some, none_some, inside_list}, Expressing.{Entries, gives_reference}, Located.{width, declared_reference}, Flow.{Agrees, agrees_left, agrees_right, agrees_all}, Pieces.{IsOwn, Levels, levels_both, pick, enters}, Slots.{AreFit, fit_same, below, below_full}, Stating.{IsAround, L, S, ends_at, then_at, entered, lift, longer, zeros, result_alone, all_statements}}
+use Rattle.sharc_compile_laws.proofs.{Imports.{◌≡◌, ℕ, zero, suc, ◌+◌, ◌-◌, ◌<◌, ◌≤◌, Bool, true, false, cond, List, [], ◌∷◌, ◌++◌, length, map, refl, ap, sym, ◌∙◌, subst, arith, length-append, append_assoc, Some, nat_lt, false≢true, nat_tests, slice_get, slice_index_or, Declaration, Function, is_pointer, declared_kind, Row, GlobalCells, no_function, Parameter, function_at, functions_in, result_kind_of, Assignment, is_reference, Op, Flat, function_of, Context, slot_of, ref_count, at_site, ends_from, zero_code, behind_statements, statements_code, in_function, around_body, function_code, functions_code, parameter_of, refs_of, AreRows, StatementsSuit, agrees_all, agrees_left, agrees_right, get_right, Agrees, free, full, Fits, Slots, Level, Takes, FlattenedIsLevel, get_left, same_some, none_some, inside_list}, Expressing.{Entries, gives_reference}, Located.{width, declared_reference}, Pieces.{IsOwn, held}, Slots.{AreFit, fit_same, below, below_full}, Stating.{IsAround, L, S, ends_at, then_at, entered, lift, longer, zeros, result_alone, all_statements}}
+use Rattle.sharc_flat_lemmas.proofs.Flow as flow
 use Rattle.sharc_guard.specs.Level.{Slot}
-
--- ---- lists
-get_left : (xs ys : List Op) (j : ℕ) → j < length xs → slice_get (xs ++ ys) j ≡ slice_get xs j
-get_left [] ys j lt = absurd (omega (arith, lt))
-get_left (x ∷ xs) ys zero lt = refl
-get_left (x ∷ xs) ys (suc j) lt = get_left xs ys j (omega (arith, lt))
-
-get_right : (xs ys : List Op) (j : ℕ) → slice_get (xs ++ ys) (length xs + j) ≡ slice_get ys j
-get_right [] ys j = let e : 0 + j ≡ j = omega arith in ap (slice_get ys) e
-get_right (x ∷ xs) ys j = let e : length (x ∷ xs) + j ≡ suc (length xs + j) = omega arith in ap (slice_get (x ∷ (xs ++ ys))) e ∙ get_right xs ys j
 
 -- where the function of this number begins, and the function of each line
 module _ (m : Assignment) (globals : List GlobalCells) where
@@ -32,7 +23,7 @@ module _ (flat : Flat) (owner : ℕ → ℕ) (m : Assignment) where
     states : List Slots
     many : length states ≡ length (function_code m globals pc fn)
     begins : (table : ℕ → Slots) → Agrees table pc states → AreFit (below (ref_count (map slot_of fn.parameters))) (table pc)
-    runs : (table : ℕ → Slots) → Entries flat m table → ((q : ℕ) → pc ≤ q → q < pc + length (function_code m globals pc fn) → IsOwn flat owner g f q) → Agrees table pc states → Levels flat owner g f table pc (function_code m globals pc fn)
+    runs : (table : ℕ → Slots) → Entries flat m table → ((q : ℕ) → pc ≤ q → q < pc + length (function_code m globals pc fn) → IsOwn flat owner g f q) → Agrees table pc states → flow.Levels (held flat owner g f) table pc (function_code m globals pc fn)
 
   a_function : (globals : List GlobalCells) (f pc : ℕ) (fn : Function) → function_at m.typed f ≡ Some fn → StatementsSuit (in_function m globals fn) (declared_kind fn.result) false fn.statements → IsFunction globals f pc fn
   a_function globals f pc fn at suits =
@@ -63,12 +54,12 @@ module _ (flat : Flat) (owner : ℕ → ℕ) (m : Assignment) where
         begins = λ table h.
             let left = agrees_left table pc p.states (below (width r) ∷ []) h in
             let last = (agrees_right table pc p.states (below (width r) ∷ []) (length F) p.many h).0 in
-            enters flat owner g f D (below k) pc F (below (width r)) p table left (subst (AreFit (below (width r))) (sym last) (fit_same (below (width r))));
+            flow.enters (held flat owner g f) D (below k) pc F (below (width r)) p table left (subst (AreFit (below (width r))) (sym last) (fit_same (below (width r))));
         runs = λ table e own h.
             let left = agrees_left table pc p.states (below (width r) ∷ []) h in
             let last = (agrees_right table pc p.states (below (width r) ∷ []) (length F) p.many h).0 in
-            subst (Levels flat owner g f table pc) (sym code_is)
-            (levels_both flat owner g f table pc F R (p.runs table (e, λ sure. absurd (false≢true sure)) (λ q low high. own q low (omega (arith, high, count))) left (subst (AreFit (below (width r))) (sym last) (fit_same (below (width r)))))
+            subst (flow.Levels (held flat owner g f) table pc) (sym code_is)
+            (flow.levels_both (held flat owner g f) table pc F R (p.runs table (e, λ sure. absurd (false≢true sure)) (λ q low high. own q low (omega (arith, high, count))) left (subst (AreFit (below (width r))) (sym last) (fit_same (below (width r)))))
             (subst (λ s. Level flat owner g table (pc + length F) f s (Op.Return (at_site fn.body.last))) (sym last) (result_alone flat owner f m r is table), tt));
       }
 
@@ -108,7 +99,7 @@ module _ (flat : Flat) (owner : ℕ → ℕ) (m : Assignment) where
           many = let a = p.many in let b = q.many in omega (arith, a, b, count, length-append p.states q.states);
           begins = λ table h. begins_by table (λ a. p.begins table a) (λ a. q.begins table a) (agrees_left table pc p.states q.states h) (agrees_right table pc p.states q.states (length C) p.many h);
           runs = λ table e h j o at.
-              lines_by table C R (λ i x y. subst (λ f. Level flat owner g table (pc + i) f (table (pc + i)) x) (sym ((own (pc + i) (omega arith) (let w = inside_list C i x y in omega (arith, w))).1)) (pick flat owner g k table pc C (p.runs table e own (agrees_left table pc p.states q.states h)) i x y))
+              lines_by table C R (λ i x y. subst (λ f. Level flat owner g table (pc + i) f (table (pc + i)) x) (sym ((own (pc + i) (omega arith) (let w = inside_list C i x y in omega (arith, w))).1)) (flow.pick (held flat owner g k) table pc C (p.runs table e own (agrees_left table pc p.states q.states h)) i x y))
               (q.runs table e (agrees_right table pc p.states q.states (length C) p.many h)) j o at;
         }
       where

@@ -1,5 +1,6 @@
 -- The code of a statement: what variables hold is held before it and after it, and nothing else.
-use Rattle.sharc_compile_laws.proofs.{Imports.{◌≡◌, inl, inr, ⊎_elim, ℕ, ◌+◌, ◌<◌, ◌≤◌, Bool, true, false, List, [], ◌∷◌, ◌++◌, length, take, refl, ap, sym, ◌∙◌, subst, arith, length-append, append_assoc, Option, Some, None, false≢true, cases_eq, append-nil, take-append-le, take_all, take_at, Site, Declaration, Jump, Break, Continue, span_of, Expression, Right, value, malloc, Simple, assign, does_call, Local, First, nothing, declares, does, Statement, empty, block, declare, simple, jump, return, if_then, if_then_else, while, for, Statements, no_statements, statement, Kind, declared_kind, pointed, Assignment, written, row_at, declared_row, Sharing, is_reference, Op, Flat, Lvalue, Slot, Context, slot_of, ref_count, at_site, ends_from, leaves, Target, variable, base_width, index_width, store_code, width_code, kind_of, is_ref, target_of, mode_of, guard_of, lvalue_in, expression_code, place_code, elements_code, right_code, simple_code, with_variable, ints_of, refs_of, zero_code, initial_code, local_code, first_code, behind_first, step_code, test_code, turn_code, Around, opened, looping, jump_code, result_code, return_code, body_at, turns_code, behind_statement, behind_statements, statement_code, statements_code, Suits, Goes, CountSuits, RightSuits, LeftSuits, SimpleSuits, InitialSuits, FirstSuits, TestSuits, IfThere, StatementSuits, StatementsSuit, is_declaration, in_first, in_statement, free, full, Fits, Slots, with_slot, with_moved, result_slot, Enters, Leaves, Level}, Expressing.{Entries, gives_reference, expressions, places}, Leaving.{kept, leaves_to, ends}, Located.{width, one_more, declared_reference}, Parts.{plain_integer, B, then_do, pre, post, none, does as does_one, keeps, enter, null_at, widths_kept, truths, drops, cells_stored, variable_stored}, Pieces.{Piece, known, moved, joins, line, turned, sides, Inner, always, decided, looped}, Slots.{AreFit, fits_full, fits_free, fit_same, below, below_full, below_free, fit_below, none_cleared, with_same, with_other, pushed}}
+use Rattle.sharc_compile_laws.proofs.{Imports.{◌≡◌, inl, inr, ⊎_elim, ℕ, ◌+◌, ◌<◌, ◌≤◌, Bool, true, false, List, [], ◌∷◌, ◌++◌, length, take, refl, ap, sym, ◌∙◌, subst, arith, length-append, append_assoc, Option, Some, None, false≢true, cases_eq, append-nil, take-append-le, take_all, take_at, Site, Declaration, Jump, Break, Continue, span_of, Expression, Right, value, malloc, Simple, assign, does_call, Local, First, nothing, declares, does, Statement, empty, block, declare, simple, jump, return, if_then, if_then_else, while, for, Statements, no_statements, statement, Kind, declared_kind, pointed, Assignment, written, row_at, declared_row, Sharing, is_reference, Op, Flat, Lvalue, Slot, Context, slot_of, ref_count, at_site, ends_from, leaves, Target, variable, base_width, index_width, store_code, width_code, kind_of, is_ref, target_of, mode_of, guard_of, lvalue_in, expression_code, place_code, elements_code, right_code, simple_code, with_variable, ints_of, refs_of, zero_code, initial_code, local_code, first_code, behind_first, step_code, test_code, turn_code, Around, opened, looping, jump_code, result_code, return_code, body_at, turns_code, behind_statement, behind_statements, statement_code, statements_code, Suits, Goes, CountSuits, RightSuits, LeftSuits, SimpleSuits, InitialSuits, FirstSuits, TestSuits, IfThere, StatementSuits, StatementsSuit, is_declaration, in_first, in_statement, free, full, Fits, Slots, with_slot, with_moved, result_slot, Enters, Leaves, Level}, Expressing.{Entries, gives_reference, expressions, places}, Leaving.{kept, leaves_to, ends}, Located.{width, one_more, declared_reference}, Parts.{plain_integer, B, then_do, pre, post, none, does as does_one, keeps, enter, null_at, widths_kept, truths, drops, cells_stored, variable_stored}, Pieces.{held, looped}, Slots.{AreFit, fits_full, fits_free, fit_same, below, below_full, below_free, fit_below, none_cleared, with_same, with_other, pushed}}
+use Rattle.sharc_flat_lemmas.proofs.Flow as flow
 
 -- ---- scopes
 
@@ -198,13 +199,13 @@ module _ (flat : Flat) (owner : ℕ → ℕ) (f : ℕ) (m : Assignment) where
   L b n a table = Entries flat m table × (b ≡ true → Enters flat owner g table f (below n) a.broken × Enters flat owner g table f (below n) a.continued)
 
   abbrev pub S : ((ℕ → Slots) → Type 0) → ℕ → ℕ → List Op → ℕ → Type 0
-  S D from pc os to = Piece flat owner g f D (below from) pc os (below to)
+  S D from pc os to = flow.Piece (held flat owner g f) D (below from) pc os (below to)
 
   pub then_at : (D : (ℕ → Slots) → Type 0) (from mid to pc : ℕ) (xs ys : List Op) → S D from pc xs mid → S D mid (pc + length xs) ys to → S D from pc (xs ++ ys) to
-  then_at D from mid to pc xs ys p q = joins flat owner g f D (below from) (below mid) (below to) pc xs ys p q
+  then_at D from mid to pc xs ys p q = flow.joins (held flat owner g f) D (below from) (below mid) (below to) pc xs ys p q
 
   at_place : (D : (ℕ → Slots) → Type 0) (from p q : ℕ) (os : List Op) (to : ℕ) → p ≡ q → S D from p os to → S D from q os to
-  at_place D from p q os to e x = moved flat owner g f D (below from) p q os (below to) e x
+  at_place D from p q os to e x = flow.moved (held flat owner g f) D (below from) p q os (below to) e x
 
   pub entered : (D : (ℕ → Slots) → Type 0) (from pc to : ℕ) (os : List Op) → S D from (pc + 1) os to → S D from pc (Op.Enter ∷ os) to
   entered D from pc to os p = then_at D from from to pc (Op.Enter ∷ []) os (keeps flat owner g f D (below from) Op.Enter (λ table q n. n) pc) (at_place D from (pc + 1) (pc + length (Op.Enter ∷ [])) os to (omega arith) p)
@@ -217,7 +218,7 @@ module _ (flat : Flat) (owner : ℕ → ℕ) (f : ℕ) (m : Assignment) where
 
   -- ---- ways out
   jump_at : (D : (ℕ → Slots) → Type 0) (n to pc e : ℕ) → ((table : ℕ → Slots) → D table → Enters flat owner g table f (below n) to) → S D n pc (Op.Jump to ∷ []) e
-  jump_at D n to pc e h = line flat owner g f D (below n) pc (Op.Jump to) (below e) (λ table d own end. h table d)
+  jump_at D n to pc e h = flow.line (held flat owner g f) D (below n) pc (Op.Jump to) (below e) (λ table d own end. h table d)
 
   left_for : (D : (ℕ → Slots) → Type 0) (c : Context) (marks : List ℕ) (n pc : ℕ) → ref_count (kept c.scope marks) ≡ n → S D (refs_of c) pc (leaves c.scope marks) n
   left_for D c marks n pc e =
@@ -241,7 +242,7 @@ module _ (flat : Flat) (owner : ℕ → ℕ) (f : ℕ) (m : Assignment) where
       by false k lt = omega arith
 
   return_at : (D : (ℕ → Slots) → Type 0) (b : Bool) (pc e : ℕ) (site : Site) → g f ≡ b → S D (width b) pc (Op.Return (at_site site) ∷ []) e
-  return_at D b pc e site is = line flat owner g f D (below (width b)) pc (Op.Return (at_site site)) (below e) (λ table d own end. result_alone b is table)
+  return_at D b pc e site is = flow.line (held flat owner g f) D (below (width b)) pc (Op.Return (at_site site)) (below e) (λ table d own end. result_alone b is table)
 
   -- nothing but the value in this register
   abbrev alone : Bool → ℕ → Slots
@@ -253,7 +254,7 @@ module _ (flat : Flat) (owner : ℕ → ℕ) (f : ℕ) (m : Assignment) where
       (λ other. subst (λ y. Fits y (with_slot (below 0) r full k)) (sym (below_free (r + 1) k (omega (arith, le, other)))) (fits_free (with_slot (below 0) r full k))) (cases_eq k r)
   alone_high false r k le = subst (λ y. Fits y (below 0 k)) (sym (below_free (r + 0) k (omega (arith, le)))) (fits_free (below 0 k))
 
-  result_at : (D : (ℕ → Slots) → Type 0) (b : Bool) (i r pc : ℕ) → Piece flat owner g f D (alone b r) pc (result_code b i r) (below (width b))
+  result_at : (D : (ℕ → Slots) → Type 0) (b : Bool) (i r pc : ℕ) → flow.Piece (held flat owner g f) D (alone b r) pc (result_code b i r) (below (width b))
   result_at D true i r pc = ⊎_elim there apart (cases_eq 0 r)
     where
       s : Slots
@@ -262,11 +263,11 @@ module _ (flat : Flat) (owner : ℕ → ℕ) (f : ℕ) (m : Assignment) where
       one_full : AreFit s (with_slot (below 0) r full)
       one_full = fit_same s
 
-      there : 0 ≡ r → Piece flat owner g f D s pc (Op.MoveReference 0 r ∷ []) (below 1)
+      there : 0 ≡ r → flow.Piece (held flat owner g f) D s pc (Op.MoveReference 0 r ∷ []) (below 1)
       there e = does_one flat owner g f D s (Op.MoveReference 0 r) s (below 1)
           (fit_below 1 s (λ k le. with_other (below 0) r full k (λ z. omega (arith, z, le, e)) ∙ below_free 0 k (omega arith))) (λ table q n. inl (e, n)) pc
 
-      apart : (0 ≡ r → ⊥) → Piece flat owner g f D s pc (Op.MoveReference 0 r ∷ []) (below 1)
+      apart : (0 ≡ r → ⊥) → flow.Piece (held flat owner g f) D s pc (Op.MoveReference 0 r ∷ []) (below 1)
       apart other = does_one flat owner g f D s (Op.MoveReference 0 r) (with_moved s 0 r) (below 1)
           (fit_below 1 (with_moved s 0 r) (λ k le. with_other (with_slot s r free) 0 (s r) k (λ z. omega (arith, z, le)) ∙ none_cleared 1 s r (λ j low far. with_other (below 0) r full j far ∙ below_free 0 j (omega arith)) k le))
           (λ table q n. inr (with_other (below 0) r full 0 other ∙ below_free 0 0 (omega arith), other, n)) pc
@@ -274,7 +275,7 @@ module _ (flat : Flat) (owner : ℕ → ℕ) (f : ℕ) (m : Assignment) where
 
   -- where nothing is known of a loop
   pub lift : (b : Bool) (n : ℕ) (a : Around) (from to : ℕ) (os : List Op) → Q from os to → (pc : ℕ) → S (L b n a) from pc os to
-  lift b n a from to os p pc = known flat owner g f E (L b n a) (below from) pc os (below to) (λ table d. d.0) (p pc)
+  lift b n a from to os p pc = flow.known (held flat owner g f) E (L b n a) (below from) pc os (below to) (λ table d. d.0) (p pc)
 
   returns : (c : Context) → c.program ≡ m → (b : Bool) (n : ℕ) (a : Around) → IsAround (g f) b n a c.scope → (site : Site) (e : Option Expression) → IfThere (λ e. Suits c e × Goes a.result (kind_of c e)) e → (pc to : ℕ)
       → S (L b n a) (refs_of c) pc (return_code c a site e) to
@@ -300,9 +301,9 @@ module _ (flat : Flat) (owner : ℕ → ℕ) (f : ℕ) (m : Assignment) where
       then_at D k0 (k0 + width r) to pc X (Y ++ (Z ++ (R ++ Op.Return (at_site site) ∷ [])))
       (lift b n a k0 (k0 + width r) X (same_width k0 X (is_ref c e) r k.1.0 k0 (expressions flat owner f m c same (ints_of c) k0 (omega arith) e k.0)) pc)
       (then_at D (k0 + width r) (k0 + width r) to (pc + length X) Y (Z ++ (R ++ Op.Return (at_site site) ∷ [])) (widths_kept flat owner g f D (below (k0 + width r)) (ints_of c) a.result (span_of e).first (pc + length X))
-      (joins flat owner g f D (below (k0 + width r)) (alone r k0) (below to) (pc + length X + length Y) Z (R ++ Op.Return (at_site site) ∷ [])
+      (flow.joins (held flat owner g f) D (below (k0 + width r)) (alone r k0) (below to) (pc + length X + length Y) Z (R ++ Op.Return (at_site site) ∷ [])
       (leaves_to flat owner g f D (below (k0 + width r)) (alone r k0) c.scope marks (λ j lt. absurd (omega (arith, lt, none_kept))) (λ j le. alone_high r k0 j le) (pc + length X + length Y))
-      (joins flat owner g f D (alone r k0) (below (width r)) (below to) (pc + length X + length Y + length Z) R (Op.Return (at_site site) ∷ []) (result_at D r (ints_of c) k0 (pc + length X + length Y + length Z))
+      (flow.joins (held flat owner g f) D (alone r k0) (below (width r)) (below to) (pc + length X + length Y + length Z) R (Op.Return (at_site site) ∷ []) (result_at D r (ints_of c) k0 (pc + length X + length Y + length Z))
       (return_at D r (pc + length X + length Y + length Z + length R) to site h.result))))
 
   -- ---- loops
@@ -316,15 +317,15 @@ module _ (flat : Flat) (owner : ℕ → ℕ) (f : ℕ) (m : Assignment) where
 
   back : (n : ℕ) (a : Around) (pc at : ℕ) (step : List Op) → Q n step n → S (M n a pc) n at (step ++ Op.Jump (pc + 3) ∷ []) n
   back n a pc at step p =
-      then_at (M n a pc) n n n at step (Op.Jump (pc + 3) ∷ []) (known flat owner g f E (M n a pc) (below n) at step (below n) (λ table d. d.0.0) (p at)) (jump_at (M n a pc) n (pc + 3) (at + length step) n (λ table d. d.1))
+      then_at (M n a pc) n n n at step (Op.Jump (pc + 3) ∷ []) (flow.known (held flat owner g f) E (M n a pc) (below n) at step (below n) (λ table d. d.0.0) (p at)) (jump_at (M n a pc) n (pc + 3) (at + length step) n (λ table d. d.1))
 
   inner_of : (c : Context) → c.program ≡ m → (a : Around) (e : Option Expression) → IfThere (TestSuits c) e → (pc : ℕ) (step code : List Op) → Q (refs_of c) step (refs_of c) → S (L true (refs_of c) a) (refs_of c) (body_at pc (turn_code c e)) code (refs_of c)
-      → Inner flat owner g f (M (refs_of c) a pc) (below (refs_of c)) (pc + 3) (turn_code c e (length code + length step + 1)) code (step ++ Op.Jump (pc + 3) ∷ [])
+      → flow.Inner (held flat owner g f) (M (refs_of c) a pc) (below (refs_of c)) (pc + 3) (turn_code c e (length code + length step + 1)) code (step ++ Op.Jump (pc + 3) ∷ [])
   inner_of c same a None t pc step code p q =
       let n = refs_of c in
       let D = M n a pc in
-      let body = known flat owner g f (L true n a) D (below n) (pc + 3) code (below n) (λ table d. d.0) (at_place (L true n a) n (body_at pc (turn_code c None)) (pc + 3) code n (omega arith) q) in
-      always flat owner g f D (below n) (pc + 3) code (step ++ Op.Jump (pc + 3) ∷ []) body (back n a pc (pc + 3 + length code) step p)
+      let body = flow.known (held flat owner g f) (L true n a) D (below n) (pc + 3) code (below n) (λ table d. d.0) (at_place (L true n a) n (body_at pc (turn_code c None)) (pc + 3) code n (omega arith) q) in
+      flow.always (held flat owner g f) D (below n) (pc + 3) code (step ++ Op.Jump (pc + 3) ∷ []) body (back n a pc (pc + 3 + length code) step p)
   inner_of c same a (Some e) t pc step code p q =
       let n = refs_of c in
       let D = M n a pc in
@@ -332,11 +333,11 @@ module _ (flat : Flat) (owner : ℕ → ℕ) (f : ℕ) (m : Assignment) where
       let S = step ++ Op.Jump (pc + 3) ∷ [] in
       let at = pc + 3 + length X + 1 in
       let z : body_at pc (turn_code c (Some e)) ≡ at = omega (arith, test_length c e 0) in
-      let body = known flat owner g f (L true n a) D (below n) at code (below n) (λ table d. d.0) (at_place (L true n a) n (body_at pc (turn_code c (Some e))) at code n z q) in
-      let test = known flat owner g f E D (below n) (pc + 3) X (below n) (λ table d. d.0.0) (tests c same e t (pc + 3)) in
+      let body = flow.known (held flat owner g f) (L true n a) D (below n) at code (below n) (λ table d. d.0) (at_place (L true n a) n (body_at pc (turn_code c (Some e))) at code n z q) in
+      let test = flow.known (held flat owner g f) E D (below n) (pc + 3) X (below n) (λ table d. d.0.0) (tests c same e t (pc + 3)) in
       let count : length (code ++ S) ≡ length code + length step + 1 = omega (arith, length-append code S, length-append step (Op.Jump (pc + 3) ∷ [])) in
-      subst (λ k. Inner flat owner g f D (below n) (pc + 3) (X ++ Op.SkipIfZero (ints_of c) k ∷ []) code S) count
-      (decided flat owner g f D (below n) (pc + 3) (ints_of c) X code S test body (back n a pc (at + length code) step p))
+      subst (λ k. flow.Inner (held flat owner g f) D (below n) (pc + 3) (X ++ Op.SkipIfZero (ints_of c) k ∷ []) code S) count
+      (flow.decided (held flat owner g f) D (below n) (pc + 3) (ints_of c) X code S tt test body (back n a pc (at + length code) step p))
 
   loops : (c : Context) → c.program ≡ m → (b : Bool) (n : ℕ) (a around : Around) (e : Option Expression) → IfThere (TestSuits c) e → (pc : ℕ) (step code : List Op) → Q (refs_of c) step (refs_of c)
       → S (L true (refs_of c) (looping around (pc + 1) (pc + 2))) (refs_of c) (body_at pc (turn_code c e)) code (refs_of c) → S (L b n a) (refs_of c) pc (turns_code pc step (turn_code c e (length code + length step + 1)) code) (refs_of c)
@@ -361,7 +362,7 @@ module _ (flat : Flat) (owner : ℕ → ℕ) (f : ℕ) (m : Assignment) where
         let Y = ends_from d.scope (length c.scope) in
         entered D (refs_of c) pc (refs_of c) ((X ++ Y) ++ Op.BlockEnd ∷ [])
         (then_at D (refs_of c) (refs_of c) (refs_of c) (pc + 1) (X ++ Y) (Op.BlockEnd ∷ [])
-        (then_at D (refs_of c) (refs_of d) (refs_of c) (pc + 1) X Y (known flat owner g f (L b n (opened c a)) D (below (refs_of c)) (pc + 1) X (below (refs_of d)) (λ table k. k)
+        (then_at D (refs_of c) (refs_of d) (refs_of c) (pc + 1) X Y (flow.known (held flat owner g f) (L b n (opened c a)) D (below (refs_of c)) (pc + 1) X (below (refs_of d)) (λ table k. k)
         (all_statements c same b n (opened c a) (opened_around (g f) b n a c w) (omega arith) (pc + 1) all h)) (ends_at D c d (all_grow c all) (pc + 1 + length X)))
         (keeps flat owner g f D (below (refs_of c)) Op.BlockEnd (λ table q z. z) (pc + 1 + length (X ++ Y))))
     statements c same b n a w pc (declare s l) h = entered (L b n a) (refs_of c) pc (refs_of (with_variable c l.declaration)) (local_code c l) (lift b n a (refs_of c) (refs_of (with_variable c l.declaration)) (local_code c l) (locals c same l h) (pc + 1))
@@ -375,7 +376,7 @@ module _ (flat : Flat) (owner : ℕ → ℕ) (f : ℕ) (m : Assignment) where
         let at = pc + 1 + length (turn_code c (Some e) 0) in
         let X = statement_code c a at x in
         entered D k pc k (turn_code c (Some e) (length X) ++ X)
-        (turned flat owner g f D (below k) (below k) (pc + 1) (ints_of c) T X (fit_same (below k)) (lift b n a k k T (tests c same e h.0) (pc + 1))
+        (flow.turned (held flat owner g f) D (below k) (below k) (pc + 1) (ints_of c) T X tt (fit_same (below k)) (lift b n a k k T (tests c same e h.0) (pc + 1))
         (at_place D k at (pc + 1 + length T + 1) X k (omega (arith, test_length c e 0)) (plain_end D c x h.2 at X (statements c same b n a w at x h.1))))
     statements c same b n a w pc (if_then_else s e x y) h =
         let D = L b n a in
@@ -386,7 +387,7 @@ module _ (flat : Flat) (owner : ℕ → ℕ) (f : ℕ) (m : Assignment) where
         let at2 = at + length X + 1 in
         let Y = statement_code c a at2 y in
         entered D k pc k (turn_code c (Some e) (length X + 1) ++ (X ++ (Op.Skip (length Y) ∷ Y)))
-        (sides flat owner g f D (below k) (below k) (below k) (pc + 1) (ints_of c) T X Y (fit_same (below k)) (lift b n a k k T (tests c same e h.0) (pc + 1))
+        (flow.sides (held flat owner g f) D (below k) (below k) (below k) (pc + 1) (ints_of c) T X Y tt tt (fit_same (below k)) (lift b n a k k T (tests c same e h.0) (pc + 1))
         (at_place D k at (pc + 1 + length T + 1) X k (omega (arith, test_length c e 0)) (plain_end D c x h.3 at X (statements c same b n a w at x h.1)))
         (at_place D k at2 (pc + 1 + length T + 1 + length X + 1) Y k (omega (arith, test_length c e 0)) (plain_end D c y h.4 at2 Y (statements c same b n a w at2 y h.2))))
     statements c same b n a w pc (while s e x) h =

@@ -1,6 +1,7 @@
 -- The code of statements and of functions: nothing is known of integer registers where a statement begins and ends.
-use Rattle.sharc_compile_laws.proofs.{Imports.{pos, slice_get, slice_index_or, ◌≡◌, ℕ, zero, suc, ◌+◌, ◌<◌, ◌≤◌, Bool, true, false, cond, List, [], ◌∷◌, ◌++◌, length, take, drop, refl, ap, sym, ◌∙◌, subst, arith, length-append, Option, Some, None, ⊎_elim, cases_lt, Site, Declaration, Jump, Break, Continue, span_of, Expression, Right, value, malloc, Simple, assign, does_call, Local, First, nothing, declares, does, Statement, empty, block, declare, simple, jump, return, if_then, if_then_else, while, for, Statements, no_statements, statement, Function, Kind, declared_kind, Row, GlobalCells, no_function, functions_in, pointed, Assignment, written, row_at, declared_row, Sharing, private, is_reference, Op, Flat, function_of, Slot, Context, ref_count, at_site, pops, ends_from, leaves, variable, base_width, index_width, width_code, kind_of, is_ref, target_of, mode_of, guard_of, lvalue_in, drop_code, expression_code, place_code, elements_code, right_code, simple_code, with_variable, ints_of, refs_of, zero_code, declared_lvalue, initial_code, local_code, first_code, behind_first, step_code, test_code, turn_code, Around, opened, looping, jump_code, result_code, return_code, body_at, turns_code, behind_statement, behind_statements, statement_code, statements_code, in_function, around_body, function_code, functions_code, AreRows, IsFlattened, LocksStand}, Flow.{Agrees, agrees_left, agrees_right, agrees_all, all_after, joins}, Ties.{Ties, Fit, fit_same, fit_through, nothing_in, Needs}, Tied.locks_stand, Tying.{Low, low_place, Piece, Entries, P, Own, cleared, on_zero, on_null, on_skip, then_do, one, R, both, none, plain, sets, moves, pops as pops_one, truths, widths, enters, expressions, places, stores, T}}
-use Rattle.sharc_compile_laws.proofs.Flow as flow
+use Rattle.sharc_compile_laws.proofs.{Imports.{pos, slice_get, slice_index_or, ◌≡◌, ℕ, zero, suc, ◌+◌, ◌<◌, ◌≤◌, Bool, true, false, cond, List, [], ◌∷◌, ◌++◌, length, take, drop, refl, ap, sym, ◌∙◌, subst, arith, length-append, get_or_past, Option, Some, None, ⊎_elim, cases_lt, Site, Declaration, Jump, Break, Continue, span_of, Expression, Right, value, malloc, Simple, assign, does_call, Local, First, nothing, declares, does, Statement, empty, block, declare, simple, jump, return, if_then, if_then_else, while, for, Statements, no_statements, statement, Function, Kind, declared_kind, Row, GlobalCells, no_function, functions_in, pointed, Assignment, written, row_at, declared_row, Sharing, private, is_reference, Op, Flat, function_of, Slot, Context, ref_count, at_site, pops, ends_from, leaves, variable, base_width, index_width, width_code, kind_of, is_ref, target_of, mode_of, guard_of, lvalue_in, drop_code, expression_code, place_code, elements_code, right_code, simple_code, with_variable, ints_of, refs_of, zero_code, declared_lvalue, initial_code, local_code, first_code, behind_first, step_code, test_code, turn_code, Around, opened, looping, jump_code, result_code, return_code, body_at, turns_code, behind_statement, behind_statements, statement_code, statements_code, in_function, around_body, function_code, functions_code, AreRows, IsFlattened, agrees_all, agrees_right, Agrees, LocksStand}, Ties.{Ties, Fit, fit_same, nothing_in, Needs}, Tied.locks_stand, Tying.{Low, low_place, Piece, Entries, P, tied, then_do, one, R, both, none, plain, sets, moves, pops as pops_one, truths, widths, enters, expressions, places, stores, T}}
+use Rattle.sharc_flat_lemmas.proofs.Flow.{joins}
+use Rattle.sharc_flat_lemmas.proofs.Flow as flow
 
 -- a context of the same globals
 after_same : (c : Context) (globals : List GlobalCells) (x : Statement) → c.globals ≡ globals → (behind_statement c x).globals ≡ globals
@@ -114,13 +115,13 @@ module _ (flat : Flat) where
   S D pc os = Piece flat D [] pc os []
 
   lift : (D : (ℕ → Ties) → Type 0) → ((table : ℕ → Ties) → D table → Entries flat table) → (os : List Op) → X os → (pc : ℕ) → S D pc os
-  lift D f os p pc = flow.known Ties Fit fit_same fit_through (Own flat) (Needs flat) (Entries flat) D [] pc os [] f (p pc)
+  lift D f os p pc = flow.known (tied flat) (Entries flat) D [] pc os [] f (p pc)
 
   lift_l : (a : Around) (os : List Op) → X os → (pc : ℕ) → S (L a) pc os
   lift_l a os p pc = lift (L a) (λ table d. d.0) os p pc
 
   then_at : (D : (ℕ → Ties) → Type 0) (pc : ℕ) (xs ys : List Op) → S D pc xs → S D (pc + length xs) ys → S D pc (xs ++ ys)
-  then_at D pc xs ys p q = flow.joins Ties Fit fit_same fit_through (Own flat) (Needs flat) D [] [] [] pc xs ys p q
+  then_at D pc xs ys p q = flow.joins (tied flat) D [] [] [] pc xs ys p q
 
   at_place : (D : (ℕ → Ties) → Type 0) (p q : ℕ) (os : List Op) → p ≡ q → S D p os → S D q os
   at_place D p q os e x = subst (λ n. S D n os) e x
@@ -129,7 +130,7 @@ module _ (flat : Flat) where
   entered a pc os p = then_at (L a) pc (Op.Enter ∷ []) os (lift_l a (Op.Enter ∷ []) (bare 0 _ (plain flat 0 Op.Enter (λ table pc s f. f) (λ m. tt))) pc) (at_place (L a) (pc + 1) (pc + length (Op.Enter ∷ [])) os (omega arith) p)
 
   jump_to : (D : (ℕ → Ties) → Type 0) (to pc : ℕ) → ((table : ℕ → Ties) → D table → table to ≡ []) → S D pc (Op.Jump to ∷ [])
-  jump_to D to pc h = flow.line Ties Fit fit_same fit_through (Own flat) (Needs flat) D [] pc (Op.Jump to) [] (λ table d own end. record { next = subst (Fit []) (sym (h table d)) (fit_same []); stands = λ m h. tt })
+  jump_to D to pc h = flow.line (tied flat) D [] pc (Op.Jump to) [] (λ table d own end. record { next = subst (Fit []) (sym (h table d)) (fit_same []); stands = λ m h. tt })
 
   jumps : (c : Context) (a : Around) (j : Jump) (pc : ℕ) → S (L a) pc (jump_code c a j)
   jumps c a Break pc = then_at (L a) pc (leaves c.scope a.inside) (Op.Jump a.broken ∷ []) (lift_l a _ (leaves_x c.scope a.inside) pc) (jump_to (L a) a.broken _ (λ table d. d.1))
@@ -146,25 +147,25 @@ module _ (flat : Flat) where
   back a pc at step p = then_at (M a pc) at step (Op.Jump (pc + 3) ∷ []) (lift (M a pc) (λ table d. d.0.0) step p at) (jump_to (M a pc) (pc + 3) (at + length step) (λ table d. d.1))
 
   abbrev Inner : ((ℕ → Ties) → Type 0) → ℕ → List Op → List Op → List Op → Type 0
-  Inner D = flow.Inner Ties Fit fit_same fit_through (Own flat) (Needs flat) D []
+  Inner D = flow.Inner (tied flat) D []
 
   inner_of : (c : Context) → c.globals ≡ flat.globals → (a : Around) (e : Option Expression) (pc : ℕ) (step code : List Op) → X step → S (L a) (body_at pc (turn_code c e)) code
       → Inner (M a pc) (pc + 3) (turn_code c e (length code + length step + 1)) code (step ++ Op.Jump (pc + 3) ∷ [])
   inner_of c same a None pc step code p q =
       let D = M a pc in
-      let body = flow.known Ties Fit fit_same fit_through (Own flat) (Needs flat) (L a) D [] (pc + 3) code [] (λ table d. d.0) (at_place (L a) (body_at pc (turn_code c None)) (pc + 3) code (omega arith) q) in
-      flow.always Ties Fit fit_same fit_through (Own flat) (Needs flat) (cleared flat) (on_zero flat) (on_null flat) (on_skip flat) D [] (pc + 3) code (step ++ Op.Jump (pc + 3) ∷ []) body (back a pc (pc + 3 + length code) step p)
+      let body = flow.known (tied flat) (L a) D [] (pc + 3) code [] (λ table d. d.0) (at_place (L a) (body_at pc (turn_code c None)) (pc + 3) code (omega arith) q) in
+      flow.always (tied flat) D [] (pc + 3) code (step ++ Op.Jump (pc + 3) ∷ []) body (back a pc (pc + 3 + length code) step p)
   inner_of c same a (Some e) pc step code p q =
       let D = M a pc in
       let X1 = test_code c e in
       let S1 = step ++ Op.Jump (pc + 3) ∷ [] in
       let at = pc + 3 + length X1 + 1 in
       let z : body_at pc (turn_code c (Some e)) ≡ at = omega (arith, test_length c e 0) in
-      let body = flow.known Ties Fit fit_same fit_through (Own flat) (Needs flat) (L a) D [] at code [] (λ table d. d.0) (at_place (L a) (body_at pc (turn_code c (Some e))) at code z q) in
+      let body = flow.known (tied flat) (L a) D [] at code [] (λ table d. d.0) (at_place (L a) (body_at pc (turn_code c (Some e))) at code z q) in
       let test = lift D (λ table d. d.0.0) X1 (tests c same e) (pc + 3) in
       let count : length (code ++ S1) ≡ length code + length step + 1 = omega (arith, length-append code S1, length-append step (Op.Jump (pc + 3) ∷ [])) in
       subst (λ k. Inner D (pc + 3) (X1 ++ Op.SkipIfZero (ints_of c) k ∷ []) code S1) count
-      (flow.decided Ties Fit fit_same fit_through (Own flat) (Needs flat) (cleared flat) (on_zero flat) (on_null flat) (on_skip flat) D [] (pc + 3) (ints_of c) X1 code S1 test body (back a pc (at + length code) step p))
+      (flow.decided (tied flat) D [] (pc + 3) (ints_of c) X1 code S1 tt test body (back a pc (at + length code) step p))
 
   loops : (c : Context) → c.globals ≡ flat.globals → (a around : Around) (e : Option Expression) (pc : ℕ) (step code : List Op) → X step → S (L (looping around (pc + 1) (pc + 2))) (body_at pc (turn_code c e)) code
       → S (L a) pc (turns_code pc step (turn_code c e (length code + length step + 1)) code)
@@ -172,7 +173,7 @@ module _ (flat : Flat) where
       let T1 = turn_code c e (length code + length step + 1) in
       let S1 = step ++ Op.Jump (pc + 3) ∷ [] in
       let inside = looping around (pc + 1) (pc + 2) in
-      flow.looped Ties Fit fit_same fit_through (Own flat) (Needs flat) (cleared flat) (on_zero flat) (on_null flat) (on_skip flat) (L a) (M inside pc) [] pc T1 code S1 (length T1 + length code + length step + 2)
+      flow.looped (tied flat) (L a) (M inside pc) [] pc T1 code S1 (length T1 + length code + length step + 2) tt
       (λ table d e1 e2 e3. ((d.0, nothing_in (table (pc + 1)) e1.1, nothing_in (table (pc + 2)) e2.1), nothing_in (table (pc + 3)) e3.1)) (omega (arith, length-append step (Op.Jump (pc + 3) ∷ []))) (inner_of c same inside e pc step code p q)
 
   mutual
@@ -183,7 +184,7 @@ module _ (flat : Flat) where
         let Y = ends_from (behind_statements c all).scope (length c.scope) in
         entered a pc ((code ++ Y) ++ Op.BlockEnd ∷ [])
         (then_at (L a) (pc + 1) (code ++ Y) (Op.BlockEnd ∷ [])
-        (then_at (L a) (pc + 1) code Y (flow.known Ties Fit fit_same fit_through (Own flat) (Needs flat) (L (opened c a)) (L a) [] (pc + 1) code [] (λ table k. k) (all_statements c same (opened c a) (pc + 1) all)) (lift_l a Y (ends_x (behind_statements c all).scope (length c.scope)) (pc + 1 + length code)))
+        (then_at (L a) (pc + 1) code Y (flow.known (tied flat) (L (opened c a)) (L a) [] (pc + 1) code [] (λ table k. k) (all_statements c same (opened c a) (pc + 1) all)) (lift_l a Y (ends_x (behind_statements c all).scope (length c.scope)) (pc + 1 + length code)))
         (lift_l a (Op.BlockEnd ∷ []) (bare 0 _ (plain flat 0 Op.BlockEnd (λ table pc s f. f) (λ m. tt))) (pc + 1 + length (code ++ Y))))
     statements c same a pc (declare s l) = entered a pc (local_code c l) (lift_l a (local_code c l) (locals c same l) (pc + 1))
     statements c same a pc (simple s x) = entered a pc (simple_code c (ints_of c) (refs_of c) x) (lift_l a _ (simples c same (ints_of c) (refs_of c) x) (pc + 1))
@@ -194,7 +195,7 @@ module _ (flat : Flat) where
         let at = pc + 1 + length (turn_code c (Some e) 0) in
         let X1 = statement_code c a at x in
         entered a pc (turn_code c (Some e) (length X1) ++ X1)
-        (flow.turned Ties Fit fit_same fit_through (Own flat) (Needs flat) (cleared flat) (on_zero flat) (on_null flat) (on_skip flat) (L a) [] [] (pc + 1) (ints_of c) T1 X1 (fit_same []) (lift_l a T1 (tests c same e) (pc + 1))
+        (flow.turned (tied flat) (L a) [] [] (pc + 1) (ints_of c) T1 X1 tt (fit_same []) (lift_l a T1 (tests c same e) (pc + 1))
         (at_place (L a) at (pc + 1 + length T1 + 1) X1 (omega (arith, test_length c e 0)) (statements c same a at x)))
     statements c same a pc (if_then_else s e x y) =
         let T1 = test_code c e in
@@ -203,7 +204,7 @@ module _ (flat : Flat) where
         let at2 = at + length X1 + 1 in
         let Y1 = statement_code c a at2 y in
         entered a pc (turn_code c (Some e) (length X1 + 1) ++ (X1 ++ (Op.Skip (length Y1) ∷ Y1)))
-        (flow.sides Ties Fit fit_same fit_through (Own flat) (Needs flat) (cleared flat) (on_zero flat) (on_null flat) (on_skip flat) (L a) [] [] [] (pc + 1) (ints_of c) T1 X1 Y1 (fit_same []) (lift_l a T1 (tests c same e) (pc + 1))
+        (flow.sides (tied flat) (L a) [] [] [] (pc + 1) (ints_of c) T1 X1 Y1 tt tt (fit_same []) (lift_l a T1 (tests c same e) (pc + 1))
         (at_place (L a) at (pc + 1 + length T1 + 1) X1 (omega (arith, test_length c e 0)) (statements c same a at x))
         (at_place (L a) at2 (pc + 1 + length T1 + 1 + length X1 + 1) Y1 (omega (arith, test_length c e 0)) (statements c same a at2 y)))
     statements c same a pc (while s e x) =
@@ -245,7 +246,7 @@ module _ (flat : Flat) where
       let Y = ends_from (behind_statements c fn.statements).scope 0 in
       let r = is_reference (declared_kind fn.result) in
       let R1 = zero_code r 0 0 ++ Op.Return (at_site fn.body.last) ∷ [] in
-      flow.known Ties Fit fit_same fit_through (Own flat) (Needs flat) (L a) Z [] pc (function_code m flat.globals pc fn) [] (λ table d. (d.0, d.1, d.1))
+      flow.known (tied flat) (L a) Z [] pc (function_code m flat.globals pc fn) [] (λ table d. (d.0, d.1, d.1))
       (entered a pc (code ++ (Y ++ R1))
       (then_at (L a) (pc + 1) code (Y ++ R1) (all_statements c refl a (pc + 1) fn.statements)
       (lift_l a (Y ++ R1) (then_x Y R1 (ends_x (behind_statements c fn.statements).scope 0) (then_x (zero_code r 0 0) (Op.Return (at_site fn.body.last) ∷ []) (zero_x r 0 0) (return_x fn.body.last))) (pc + 1 + length code))))
@@ -267,7 +268,7 @@ module _ (flat : Flat) where
     all_functions : (pc : ℕ) (fs : List Function) → AreTraced pc fs
     unfolding joins begin_of
     all_functions pc [] = record {
-      piece = flow.nothing Ties Fit fit_same fit_through (Own flat) (Needs flat) Z [] pc [] (fit_same []);
+      piece = flow.nothing (tied flat) Z [] pc [] (fit_same []);
       begins = λ table h end d. let z : pc + 0 ≡ pc = omega arith in subst (λ q. Fit [] (table q)) z end;
     }
     all_functions pc (fn ∷ rest) =
@@ -276,8 +277,8 @@ module _ (flat : Flat) where
         let p = a_function m pc fn in
         let q = all_functions (pc + length C) rest in
         record {
-          piece = flow.joins Ties Fit fit_same fit_through (Own flat) (Needs flat) Z [] [] [] pc C F p q.piece;
-          begins = λ table h end d. begins_by table d (λ u. flow.enters Ties Fit fit_same fit_through (Own flat) (Needs flat) Z [] pc (C ++ F) [] (flow.joins Ties Fit fit_same fit_through (Own flat) (Needs flat) Z [] [] [] pc C F p q.piece) table h end)
+          piece = flow.joins (tied flat) Z [] [] [] pc C F p q.piece;
+          begins = λ table h end d. begins_by table d (λ u. flow.enters (tied flat) Z [] pc (C ++ F) [] (flow.joins (tied flat) Z [] [] [] pc C F p q.piece) table h end)
               (λ k. q.begins table (agrees_right table pc p.states q.piece.states (length C) p.many h) (let z : pc + length (C ++ F) ≡ pc + length C + length F = omega (arith, length-append C F) in subst (λ n. Fit [] (table n)) z end) k);
         }
       where
@@ -313,12 +314,12 @@ flattened_is_traced m flat is =
     let many = p.many in
     let table : ℕ → Ties = λ q. slice_index_or p.states q [] in
     let agrees : Agrees table 0 p.states = agrees_all [] p.states [] 0 refl in
-    let last : (q : ℕ) → length C ≤ q → table q ≡ [] = λ q le. all_after p.states [] q (omega (arith, le, many)) in
+    let last : (q : ℕ) → length C ≤ q → table q ≡ [] = λ q le. get_or_past p.states q [] (omega (arith, le, many)) in
     let end : Fit [] (table (0 + length C)) = subst (Fit []) (sym (last (0 + length C) (omega arith))) (fit_same []) in
-    let first : table 0 ≡ [] = nothing_in (table 0) (flow.enters Ties Fit fit_same fit_through (Own flat) (Needs flat) (Z flat) [] 0 C [] p table agrees end) in
+    let first : table 0 ≡ [] = nothing_in (table 0) (flow.enters (tied flat) (Z flat) [] 0 C [] p table agrees end) in
     let begins : (f : ℕ) → table (function_of flat f).entry ≡ [] =
     λ f. ⊎_elim (λ lt. nothing_in (table (function_of flat f).entry) (subst (λ n. Fit [] (table n)) (sym (row_entry flat m 0 fs flat.functions is.functions f lt)) (t.begins table agrees end f)))
-    (λ ge. ap (λ (r : Row). table r.entry) (all_after flat.functions no_function f ge) ∙ first) (cases_lt f (length flat.functions)) in
+    (λ ge. ap (λ (r : Row). table r.entry) (get_or_past flat.functions f no_function ge) ∙ first) (cases_lt f (length flat.functions)) in
     record {
       table = table;
       last = λ q le. last q (omega (arith, le, size));
@@ -326,5 +327,5 @@ flattened_is_traced m flat is =
       needs = λ pc o at.
           let z : 0 + pc ≡ pc = omega arith in
           subst (λ n. Needs flat table n (table n) o) z
-          (flow.pick Ties Fit fit_same fit_through (Own flat) (Needs flat) table 0 C (p.runs table (begins, first) (λ q low high. tt) agrees end) pc o (ap (λ l. slice_get l pc) (sym is.lines) ∙ at));
+          (flow.pick (tied flat) table 0 C (p.runs table (begins, first) (λ q low high. tt) agrees end) pc o (ap (λ l. slice_get l pc) (sym is.lines) ∙ at));
     }

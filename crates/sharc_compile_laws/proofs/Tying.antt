@@ -1,6 +1,6 @@
 -- The parts of flattened code: which integer registers name two cells of one element at each of their lines.
-use Rattle.sharc_compile_laws.proofs.{Imports.{◌≡◌, inl, inr, ⊎_elim, ℕ, ◌+◌, ◌-◌, ◌<◌, ◌≤◌, Bool, true, false, cond, List, [], ◌∷◌, ◌++◌, length, drop, refl, ap, sym, ◌∙◌, subst, arith, length-append, append_assoc, Option, Some, None, codes, bytes_eq, false≢true, Site, Span, Identifier, FieldOperator, Dot, Arrow, BinaryOperator, LogicalOr, LogicalAnd, NotEqual, PlaceCall, Lock, Unlock, Free, Negate, Not, Complement, Dereference, ValueCall, Join, Print, span_of, Expression, identifier, constant, parentheses, call, spawn, on_value, on_place, cast, index, field, unary, binary, Arguments, no_arguments, argument, Named, Kind, is_array, is_integer, element_kind, declared_kinds, GlobalCells, Use, Register, Int, Reference, word_of, named_at, kind_at, global_at, parameters_named, is_behind_pointer, LockPath, Sharing, locked, cell_in, element_cells, field_place, field_place_named, global_elements, number_named, Op, Spot, Flat, At, function_of, first_cell, cell_at, Lvalue, Context, register_of, at_site, Target, variable, in_global, in_global_at, in_object, in_object_at, named_target, target, own_field, global_of, has_base, base_width, index_width, cell_of, guard_cell, field_of, guard_field, beside_named, beside_field, mode_beside, mode_named, place_mode, lock_beside, spot_of, bounds_code, index_code, pointee_code, guard_code, drop_base, settle_base, copy_code, cell_value_code, value_code, settle_code, cell_store_code, store_code, cell_take_code, take_code, width_code, is_ref, target_of, mode_of, what_names, lvalue_in, named_code, truth_code, differ_code, compare_code, logical_code, either_code, binary_code, behind_int, behind_ref, wait_code, condition_code, with_words, argument_words, called_code, passed_code, spawn_code, value_call_code, unlocked_code, place_call_code, cast_code, guard_of, taken_guard, field_code, expression_code, arguments_code, place_code, is_cell, IsBeside, LockStands}, Ties.{Tie, copied, scaled, beside, register_in, Ties, In, Fit, fit_same, fit_through, Apart, Kept, Bounded, AllHold, Next, Needs}}
-use Rattle.sharc_compile_laws.proofs.Flow as flow
+use Rattle.sharc_compile_laws.proofs.{Imports.{◌≡◌, inl, inr, ⊎_elim, ℕ, ◌+◌, ◌-◌, ◌<◌, ◌≤◌, Bool, true, false, cond, List, [], ◌∷◌, ◌++◌, length, drop, refl, ap, sym, ◌∙◌, subst, arith, length-append, append_assoc, Option, Some, None, codes, bytes_eq, false≢true, Site, Span, Identifier, FieldOperator, Dot, Arrow, BinaryOperator, LogicalOr, LogicalAnd, NotEqual, PlaceCall, Lock, Unlock, Free, Negate, Not, Complement, Dereference, ValueCall, Join, Print, span_of, Expression, identifier, constant, parentheses, call, spawn, on_value, on_place, cast, index, field, unary, binary, Arguments, no_arguments, argument, Named, Kind, is_array, is_integer, element_kind, declared_kinds, GlobalCells, Use, Register, Int, Reference, word_of, named_at, kind_at, global_at, parameters_named, is_behind_pointer, LockPath, Sharing, locked, cell_in, element_cells, field_place, field_place_named, global_elements, number_named, Op, Spot, Flat, At, function_of, first_cell, cell_at, Lvalue, Context, register_of, at_site, Target, variable, in_global, in_global_at, in_object, in_object_at, named_target, target, own_field, global_of, has_base, base_width, index_width, cell_of, guard_cell, field_of, guard_field, beside_named, beside_field, mode_beside, mode_named, place_mode, lock_beside, spot_of, bounds_code, index_code, pointee_code, guard_code, drop_base, settle_base, copy_code, cell_value_code, value_code, settle_code, cell_store_code, store_code, cell_take_code, take_code, width_code, is_ref, target_of, mode_of, what_names, lvalue_in, named_code, truth_code, differ_code, compare_code, logical_code, either_code, binary_code, behind_int, behind_ref, wait_code, condition_code, with_words, argument_words, called_code, passed_code, spawn_code, value_call_code, unlocked_code, place_call_code, cast_code, guard_of, taken_guard, field_code, expression_code, arguments_code, place_code, is_cell, IsBeside, LockStands, Knowledge}, Ties.{Tie, copied, scaled, beside, register_in, Ties, In, Fit, fit_same, fit_through, Apart, Kept, Bounded, AllHold, Next, Needs}}
+use Rattle.sharc_flat_lemmas.proofs.Flow as flow
 
 -- ---- what is known after a place is found: of its element, where its mutex is beside it
 abbrev pub place_ties : List GlobalCells → Target → Option ℕ → ℕ → Ties
@@ -86,11 +86,28 @@ module _ (flat : Flat) where
         (stands_by m i r t (spot_of c i r site lvalue use_made mode t) is mode (subst (λ z. AllHold flat (place_ties z t (beside_field c.program.typed mode) i) m) same h) (ap (λ z. lock_beside z i r t (beside_field c.program.typed mode)) same))
 
   -- ---- pieces
-  abbrev pub Own : ℕ → Type 0
-  Own q = Unit {0}
+  abbrev pub tied : Knowledge
+  tied = record {
+    St = Ties;
+    Fit = Fit;
+    same = fit_same;
+    through = fit_through;
+    Own = λ q. Unit {0};
+    Needs = Needs flat;
+    Far = Fit;
+    far = λ s t h. h;
+    far_through = fit_through;
+    Plain = λ s. Unit {0};
+    PlainNull = λ s r. Unit {0};
+    cleared = λ s r. s;
+    noted = λ s r. s;
+    on_zero = λ table pc s i n plain a b. record { next = (a.1, b.1); stands = λ m h. tt };
+    on_null = λ table pc s r n plain a b. record { next = (a.1, b.1); stands = λ m h. tt };
+    on_skip = λ table pc s n plain a. record { next = a.1; stands = λ m h. tt };
+  }
 
   abbrev pub Piece : ((ℕ → Ties) → Type 0) → Ties → ℕ → List Op → Ties → Type 0
-  Piece = flow.Piece Ties Fit fit_same fit_through Own (Needs flat)
+  Piece = flow.Piece tied
 
   -- each function begins with nothing known
   abbrev pub Entries : (ℕ → Ties) → Type 0
@@ -100,13 +117,13 @@ module _ (flat : Flat) where
   P s os e = (pc : ℕ) → Piece Entries s pc os e
 
   pub then_do : (s m e : Ties) (xs ys : List Op) → P s xs m → P m ys e → P s (xs ++ ys) e
-  then_do s m e xs ys p q = λ pc. flow.joins Ties Fit fit_same fit_through Own (Needs flat) Entries s m e pc xs ys (p pc) (q (pc + length xs))
+  then_do s m e xs ys p q = λ pc. flow.joins tied Entries s m e pc xs ys (p pc) (q (pc + length xs))
 
   pub nothing : (s e : Ties) → Fit s e → P s [] e
-  nothing s e h = λ pc. flow.nothing Ties Fit fit_same fit_through Own (Needs flat) Entries s pc e h
+  nothing s e h = λ pc. flow.nothing tied Entries s pc e h
 
   pub one : (s : Ties) (o : Op) (e : Ties) → ((table : ℕ → Ties) (pc : ℕ) → Entries table → Fit e (table (pc + 1)) → Needs flat table pc s o) → P s (o ∷ []) e
-  one s o e l = λ pc. flow.line Ties Fit fit_same fit_through Own (Needs flat) Entries s pc o e (λ table d own end. l table pc d end)
+  one s o e l = λ pc. flow.line tied Entries s pc o e (λ table d own end. l table pc d end)
 
   -- one that writes no integer, and no access
   quiet : (s : Ties) (o : Op) → ((table : ℕ → Ties) (pc : ℕ) → Fit s (table (pc + 1)) → Next flat table pc s o) → ((m : At) → LockStands flat m o) → P s (o ∷ []) s
@@ -129,30 +146,14 @@ module _ (flat : Flat) where
   empty : (s : Ties) → P s [] s
   empty s = nothing s s (fit_same s)
 
-  -- ---- operations that lead elsewhere
-  abbrev pub cleared : Ties → ℕ → Ties
-  cleared s r = s
-
-  abbrev pub Leads : (ℕ → Ties) → Ties → ℕ → Type 0
-  Leads = flow.Leads Ties Fit fit_same fit_through Own (Needs flat)
-
-  pub on_zero : (table : ℕ → Ties) (pc : ℕ) (s : Ties) (i n : ℕ) → Leads table s (pc + 1 + n) → Leads table s (pc + 1) → Needs flat table pc s (Op.SkipIfZero i n)
-  on_zero table pc s i n a b = record { next = (a.1, b.1); stands = λ m h. tt }
-
-  pub on_null : (table : ℕ → Ties) (pc : ℕ) (s : Ties) (r n : ℕ) → Leads table (cleared s r) (pc + 1 + n) → Leads table s (pc + 1) → Needs flat table pc s (Op.SkipIfNull r n)
-  on_null table pc s r n a b = record { next = (a.1, b.1); stands = λ m h. tt }
-
-  pub on_skip : (table : ℕ → Ties) (pc : ℕ) (s : Ties) (n : ℕ) → Leads table s (pc + 1 + n) → Needs flat table pc s (Op.Skip n)
-  on_skip table pc s n a = record { next = a.1; stands = λ m h. tt }
-
   over : (s : Ties) (i : ℕ) (xs ys : List Op) → P s xs s → P s ys s → P s (Op.SkipIfZero i (length xs) ∷ (xs ++ ys)) s
-  over s i xs ys p q = λ pc. flow.over Ties Fit fit_same fit_through Own (Needs flat) cleared on_zero on_null on_skip Entries s s s pc i xs ys (fit_same s) (p (pc + 1)) (q (pc + 1 + length xs))
+  over s i xs ys p q = λ pc. flow.over tied Entries s s s pc i xs ys tt (fit_same s) (p (pc + 1)) (q (pc + 1 + length xs))
 
   over_null : (s : Ties) (r : ℕ) (o : Op) → P s (o ∷ []) s → P s (Op.SkipIfNull r 1 ∷ o ∷ []) s
-  over_null s r o p = λ pc. flow.over_null Ties Fit fit_same fit_through Own (Needs flat) cleared on_zero on_null on_skip Entries s s s pc r o (fit_same s) (fit_same s) (p (pc + 1))
+  over_null s r o p = λ pc. flow.over_null tied Entries s s s pc r o tt (fit_same s) (fit_same s) (p (pc + 1))
 
   forget : (s t e : Ties) (os : List Op) → P s os (t ++ e) → P s os e
-  forget s t e os p = λ pc. flow.wider_end Ties Fit fit_same fit_through Own (Needs flat) Entries s pc os (t ++ e) e (in_right t e) (p pc)
+  forget s t e os p = λ pc. flow.wider_end tied Entries s pc os (t ++ e) e (in_right t e) (p pc)
 
   -- ---- code that writes no integer register before this one, where nothing more is known after it
   abbrev pub R : ℕ → List Op → Type 0

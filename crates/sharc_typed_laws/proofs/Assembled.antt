@@ -1,43 +1,16 @@
 -- The functions of a program one after the other: what is said before each of their lines, and where they begin.
-use Rattle.sharc_typed_laws.proofs.{Imports.{◌≡◌, ℕ, zero, suc, ◌+◌, ◌-◌, ◌<◌, ◌≤◌, Bool, true, false, cond, List, [], ◌∷◌, ◌++◌, length, Some, refl, sym, ap, ◌∙◌, subst, arith, length-append, nat_tests, same_Some, none-some, slice_get, slice_index_or, nat_lt, Function, GlobalCells, no_function, Assignment, Op, in_function, function_code, functions_code, rows_of, Mark, Setting, Fits, IsLine, Agrees, AreLines, first, Typing, before, label_of, FunctionLines, get_left}, Closing.agrees_left}
-
--- ---- lists
-get_right : {A : Type 0} (xs ys : List A) (j : ℕ) → slice_get (xs ++ ys) (length xs + j) ≡ slice_get ys j
-get_right [] ys j = let e : 0 + j ≡ j = omega arith in ap (slice_get ys) e
-get_right (x ∷ xs) ys j = let e : length (x ∷ xs) + j ≡ suc (length xs + j) = omega arith in ap (slice_get (x ∷ (xs ++ ys))) e ∙ get_right xs ys j
-
-index_of : {A : Type 0} (xs : List A) (j : ℕ) (x d : A) → slice_get xs j ≡ Some x → slice_index_or xs j d ≡ x
-index_of [] j x d e = absurd (none-some x e)
-index_of (y ∷ xs) zero x d e = same_Some y x e
-index_of (y ∷ xs) (suc j) x d e = index_of xs j x d e
-
--- ---- tables that agree
-agrees_right : (table : ℕ → Mark) (pc : ℕ) (xs ys : List Mark) → Agrees table pc (xs ++ ys) → Agrees table (pc + length xs) ys
-agrees_right table pc [] ys h = let e : pc ≡ pc + 0 = omega arith in subst (λ q. Agrees table q ys) e h
-agrees_right table pc (x ∷ xs) ys h = let e : pc + 1 + length xs ≡ pc + length (x ∷ xs) = omega arith in subst (λ q. Agrees table q ys) e (agrees_right table (pc + 1) xs ys h.1)
-
-agrees_by : (table : ℕ → Mark) (pc : ℕ) (xs : List Mark) → ((j : ℕ) (s : Mark) → slice_get xs j ≡ Some s → table (pc + j) ≡ s) → Agrees table pc xs
-agrees_by table pc [] h = tt
-agrees_by table pc (x ∷ xs) h =
-    let e : pc ≡ pc + 0 = omega arith in
-    (ap table e ∙ h 0 x refl, agrees_by table (pc + 1) xs (λ j s at. let q : pc + 1 + j ≡ pc + suc j = omega arith in ap table q ∙ h (suc j) s at))
+use Rattle.sharc_typed_laws.proofs.{Imports.{◌≡◌, ℕ, zero, suc, ◌+◌, ◌-◌, ◌<◌, ◌≤◌, Bool, true, false, cond, List, [], ◌∷◌, ◌++◌, length, Some, refl, sym, ap, ◌∙◌, subst, arith, length-append, nat_tests, same_Some, none-some, slice_get, slice_index_or, nat_lt, Function, GlobalCells, no_function, Assignment, Op, in_function, function_code, functions_code, rows_of, Mark, Setting, Fits, IsLine, Agrees, first, Typing, before, label_of, FunctionLines, get_left, agrees_all, agrees_left, agrees_right, get_right, get_or_past}, Marked.marked}
+use Rattle.sharc_flat_lemmas.proofs.Flow as flow
 
 -- the table of a list of marks
 abbrev pub table_of : List Mark → Mark → ℕ → Mark
 table_of marks outside n = slice_index_or marks n outside
 
 pub agrees_self : (marks : List Mark) (outside : Mark) → Agrees (table_of marks outside) 0 marks
-agrees_self marks outside = agrees_by (table_of marks outside) 0 marks (λ j s at. let e : 0 + j ≡ j = omega arith in ap (table_of marks outside) e ∙ index_of marks j s outside at)
+agrees_self marks outside = agrees_all [] marks outside 0 refl
 
 pub past_marks : (marks : List Mark) (outside : Mark) (n : ℕ) → length marks ≤ n → table_of marks outside n ≡ outside
-past_marks [] outside n le = refl
-past_marks (s ∷ marks) outside zero le = absurd (omega (arith, le))
-past_marks (s ∷ marks) outside (suc n) le = past_marks marks outside n (omega (arith, le))
-
-lines_at : (z : Setting) (f : ℕ) (table : ℕ → Mark) (pc : ℕ) (os : List Op) → AreLines z f table pc os → (j : ℕ) (o : Op) → slice_get os j ≡ Some o → IsLine z f table (pc + j) (table (pc + j)) o
-lines_at z f table pc [] h j o at = absurd (none-some o at)
-lines_at z f table pc (x ∷ os) h zero o at = let e : pc ≡ pc + 0 = omega arith in subst (λ q. IsLine z f table q (table q) o) e (subst (IsLine z f table pc (table pc)) (same_Some x o at) h.0)
-lines_at z f table pc (x ∷ os) h (suc j) o at = let e : pc + 1 + j ≡ pc + suc j = omega arith in subst (λ q. IsLine z f table q (table q) o) e (lines_at z f table (pc + 1) os h.1 j o at)
+past_marks marks outside n le = get_or_past marks n outside le
 
 -- ---- the functions from this place on
 module _ (z : Setting) (y : Typing) (m : Assignment) (globals : List GlobalCells) where
@@ -95,14 +68,14 @@ module _ (z : Setting) (y : Typing) (m : Assignment) (globals : List GlobalCells
           let lt : j < length C = grind (arith, nat_tests, e) in
           let inside : nat_lt (pc + j) (pc + length C) ≡ true = grind (arith, nat_tests, lt) in
           subst (λ b. IsLine z (cond b k (owner_from (k + 1) (pc + length C) fs (pc + j))) table (pc + j) (table (pc + j)) o) (sym inside)
-          (lines_at z k table pc C (h.0.runs table (omega (arith, le, whole)) (agrees_left table pc h.0.marks rest_marks agrees)) j o (sym (get_left C R j lt) ∙ at))
+          (flow.pick (marked z k) table pc C (h.0.runs table (omega (arith, le, whole)) (agrees_left table pc h.0.marks rest_marks agrees)) j o (sym (get_left C R j lt) ∙ at))
       by false e rest =
           let ge : length C ≤ j = grind (arith, nat_tests, e) in
           let past : nat_lt (pc + j) (pc + length C) ≡ false = grind (arith, nat_tests, ge) in
           let split : length C + (j - length C) ≡ j = omega (arith, ge) in
           let place : pc + length C + (j - length C) ≡ pc + j = omega (arith, ge) in
           let own : length h.0.marks ≡ length C = h.0.many in
-          let agrees2 : Agrees table (pc + length C) rest_marks = subst (λ n. Agrees table (pc + n) rest_marks) own (agrees_right table pc h.0.marks rest_marks agrees) in
+          let agrees2 = agrees_right table pc h.0.marks rest_marks (length C) own agrees in
           subst (λ b. IsLine z (cond b k (owner_from (k + 1) (pc + length C) fs (pc + j))) table (pc + j) (table (pc + j)) o) (sym past)
           (subst (λ q. IsLine z (owner_from (k + 1) (pc + length C) fs q) table q (table q) o) place
           (rest (omega (arith, le, whole)) agrees2 (j - length C) (sym (get_right C R (j - length C)) ∙ ap (slice_get (C ++ R)) split ∙ at)))
@@ -131,7 +104,7 @@ module _ (z : Setting) (y : Typing) (m : Assignment) (globals : List GlobalCells
       let C = code pc g in
       let rest_marks = all_marks (k + 1) (pc + length C) fs h.1 in
       let own : length h.0.marks ≡ length C = h.0.many in
-      let agrees2 : Agrees table (pc + length C) rest_marks = subst (λ n. Agrees table (pc + n) rest_marks) own (agrees_right table pc h.0.marks rest_marks agrees) in
+      let agrees2 = agrees_right table pc h.0.marks rest_marks (length C) own agrees in
       let w = begins_at table (k + 1) (pc + length C) fs h.1 agrees2 d f at in
       let inside = w.entry in
       let whole = length-append C (functions_code m globals (pc + length C) fs) in

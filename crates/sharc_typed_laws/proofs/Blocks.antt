@@ -1,6 +1,6 @@
 -- Statements and blocks at a line.
-use Rattle.sharc_typed_laws.proofs.{Imports.{◌≡◌, ℕ, ◌+◌, List, [], ◌∷◌, ◌++◌, length, Some, refl, Op, Context, int_count, ref_count, pops, Label, ints_in, refs_in, less_refl, Mark, Setting, Way, AreOpen, LeadsAmong, LeadsFrom, AreLow, Typing, StandsBefore, before, BlocksAreTyped, AnywhereLeads, EnterLeads, BlockLeads}, Rules.on_block_end, Parts.{At, keeps, enter_at, within_right}, Ending.ends_typed, Closing.within_left}
-use Rattle.sharc_typed_laws.proofs.Flow as flow
+use Rattle.sharc_typed_laws.proofs.{Imports.{◌≡◌, ℕ, ◌+◌, List, [], ◌∷◌, ◌++◌, length, Some, refl, Op, Context, int_count, ref_count, pops, Label, ints_in, refs_in, less_refl, Mark, Setting, Way, AreOpen, LeadsAmong, LeadsFrom, AreLow, Typing, StandsBefore, before, BlocksAreTyped, AnywhereLeads, EnterLeads, BlockLeads}, Rules.on_block_end, Parts.{At, keeps, enter_at, within_right}, Ending.ends_typed, Closing.within_left, Marked.marked}
+use Rattle.sharc_flat_lemmas.proofs.Flow as flow
 
 module _ (z : Setting) (f : ℕ) (ways : List Way) (y : Typing) (c : Context) (low : AreLow (y.named c) (ref_count c.scope)) (l : Label) (here : StandsBefore y c f l) where
   abbrev fi : ℕ
@@ -28,7 +28,7 @@ module _ (z : Setting) (f : ℕ) (ways : List Way) (y : Typing) (c : Context) (l
   joins pc n s m e xs ys is p q = λ w h.
       let a = p (within_left fi fr xs ys w) h in
       let b = q (within_right fi fr xs ys w) a.scoped in
-      record { stretch = flow.joins z f (AreOpen z ways) s m e pc xs ys a.stretch (flow.moved z f (AreOpen z ways) m n (pc + length xs) ys e is b.stretch); scoped = b.scoped }
+      record { stretch = flow.joins (marked z f) (AreOpen z ways) s m e pc xs ys a.stretch (flow.moved (marked z f) (AreOpen z ways) m n (pc + length xs) ys e is b.stretch); scoped = b.scoped }
 
   enter : EnterLeads z f ways y c l
   enter pc e os p = joins pc (pc + 1) (before c l) (before c l) e (Op.Enter ∷ []) os refl (anywhere pc (before c l) (before c l) (Op.Enter ∷ []) (enter_at z f (AreOpen z ways) (y.named c) r low i i r l at i)) p

@@ -1,6 +1,6 @@
 -- What was taken away is given a type, or freed, unless it is NULL.
-use Rattle.sharc_typed_laws.proofs.{Imports.{◌≡◌, ◌≢◌, ℕ, ◌+◌, ◌<◌, ◌≤◌, ◌⊎◌, Bool, true, false, cond, List, [], ◌∷◌, Some, refl, sym, ap, ◌∙◌, subst, inl, inr, ⊎_elim, arith, false≢true, cases_eq, cases_lt, nat_eq, put, put_same, put_other, put_all, Op, Spot, Context, ref_count, StaticType, Mentions, cells_of, Empty, Refers, Closed, Label, Less, LessNumber, LessEntry, LessGate, EntryMentions, IsScoped, IsFree, fill, empty, knows, without_copies, without_index, Recasts, IsLayout, moved_copy, ints_in, refs_in, less_entry_refl, less_number_refl, scoped_fill, IsNumberOf, Mark, Setting, Fits, IsNamed, mark, Typing, eq_refl}, Fitting.fits_by, Standing.{less_by, less_emptied, without_same, uncopied, scoped_frame, unnamed}, Losing.{with_copies, loses_taken, stands_lost}, Moves.{on_take_local, on_free, on_give}, Parts.{P, does, same_number}, Accessed.Frame}
-use Rattle.sharc_typed_laws.proofs.Flow as flow
+use Rattle.sharc_typed_laws.proofs.{Imports.{◌≡◌, ◌≢◌, ℕ, ◌+◌, ◌<◌, ◌≤◌, ◌⊎◌, Bool, true, false, cond, List, [], ◌∷◌, Some, refl, sym, ap, ◌∙◌, subst, inl, inr, ⊎_elim, arith, false≢true, cases_eq, cases_lt, nat_eq, put, put_same, put_other, put_all, Op, Spot, Context, ref_count, StaticType, Mentions, cells_of, Empty, Refers, Closed, Label, Less, LessNumber, LessEntry, LessGate, EntryMentions, IsScoped, IsFree, fill, empty, knows, without_copies, without_index, Recasts, IsLayout, moved_copy, ints_in, refs_in, less_entry_refl, less_number_refl, scoped_fill, IsNumberOf, Mark, Setting, Fits, IsNamed, mark, Typing, eq_refl}, Fitting.{fits_same, fits_by, fits_through}, Standing.{less_by, less_emptied, without_same, uncopied, scoped_frame, unnamed}, Losing.{with_copies, loses_taken, stands_lost}, Moves.{on_take_local, on_free, on_give}, Parts.{P, does, same_number}, Accessed.Frame, Marked.marked}
+use Rattle.sharc_flat_lemmas.proofs.Flow as flow
 
 module _ (around : Setting) (f : ℕ) (D : (ℕ → Mark) → Type 0) (y : Typing) (c : Context) (low : (p : ℕ) → y.named c p ≡ true → p < ref_count c.scope) (from : ℕ) where
   abbrev N : ℕ → Bool
@@ -97,16 +97,13 @@ module _ (around : Setting) (f : ℕ) (D : (ℕ → Mark) → Type 0) (y : Typin
     unless_null o e fit p = λ w h.
         let q = p w.1 (record { few = h.few; paths = h.paths; copies = h.copies; bases = h.bases; passes = h.passes; numbers = h.numbers; known = put_all (λ q z. z ≡ true → put l.env r (Refers s) q ≢ Empty) l.known r true (λ _. not_null) (λ q ne z. h.known q (put_other l.known r q false ne ∙ z)) }) in
         record {
-          stretch = λ pc. flow.over_null around f D (mark (taken false) from i) (mark (taken true) from i) e pc r o (record { plain = record { owned = fr.at.owned; scoped = h; closed = refl }; free = free false }) seen (through gone fit) (q.stretch (pc + 1));
+          stretch = λ pc. flow.over_null (marked around f) D (mark (taken false) from i) (mark (taken true) from i) e pc r o (record { plain = record { owned = fr.at.owned; scoped = h; closed = refl }; free = free false }) seen (fits_through around.targets (mark (empty (taken false) r) from i) (mark l from i) e gone fit) (q.stretch (pc + 1));
           scoped = q.scoped;
         }
-      where
-        through : Fits around.targets (mark (empty (taken false) r) from i) (mark l from i) → Fits around.targets (mark l from i) e → Fits around.targets (mark (empty (taken false) r) from i) e
-        through a b = flow.through around f (mark (empty (taken false) r) from i) (mark l from i) e a b
 
     -- ---- free
     pub freed_at : (layout : ℕ) (spot : Spot) → IsLayout around.targets around.code layout s.target → Q (mark (taken false) from i) (Op.SkipIfNull r 1 ∷ Op.Free r layout spot ∷ []) (mark l from i)
-    freed_at layout spot laid = unless_null (Op.Free r layout spot) (mark l from i) (flow.same around f (mark l from i))
+    freed_at layout spot laid = unless_null (Op.Free r layout spot) (mark l from i) (fits_same around.targets (mark l from i))
         (does around f D N top low from (mark (taken true) from i) (Op.Free r layout spot) (mark l from i) (λ _ h. scoped_l true h)
         (λ table pc w h next. on_free around f table pc (mark (taken true) from i) (mark l from i) next (record { owned = fr.at.owned; scoped = h }) r layout spot s refl (subst (λ o. r < refs_in around.code o) (sym fr.at.owned) w) (put_same l.known r true) (free true) (put_same l.env r (Refers s)) laid
         (less_emptied l r (unnamed N i r l fr.at.stands r (omega arith)) (Refers s) r true)))

@@ -1,6 +1,6 @@
 -- How blocks are left.
-use Rattle.sharc_typed_laws.proofs.{Imports.{◌≡◌, ℕ, ◌+◌, ◌≤◌, List, [], ◌∷◌, ◌++◌, length, drop, Some, subst, ⊎_elim, Op, Context, int_count, ref_count, ends_from, leaves, Label, IsScoped, ints_in, refs_in, Mark, Setting, Way, Fits, IsLine, AreOpen, LeadsAmong, AreLow, Typing, StandsBefore, before, back, AreNested, LeavesAreTyped, IsOpen, JumpsAreTyped}, Fitting.fits_same, Ending.ends_typed, Rules.on_jump, Parts.{then_do, none}, Closing.within_left}
-use Rattle.sharc_typed_laws.proofs.Flow as flow
+use Rattle.sharc_typed_laws.proofs.{Imports.{◌≡◌, ℕ, ◌+◌, ◌≤◌, List, [], ◌∷◌, ◌++◌, length, drop, Some, subst, ⊎_elim, Op, Context, int_count, ref_count, ends_from, leaves, Label, IsScoped, ints_in, refs_in, Mark, Setting, Way, Fits, IsLine, AreOpen, LeadsAmong, AreLow, Typing, StandsBefore, before, back, AreNested, LeavesAreTyped, IsOpen, JumpsAreTyped}, Fitting.fits_same, Ending.ends_typed, Rules.on_jump, Parts.{then_do, none}, Closing.within_left, Marked.marked}
+use Rattle.sharc_flat_lemmas.proofs.Flow as flow
 
 module _ (z : Setting) (f : ℕ) (ways : List Way) where
   abbrev fi : ℕ
@@ -16,7 +16,7 @@ module _ (z : Setting) (f : ℕ) (ways : List Way) where
   last : (s m : Mark) (os : List Op) (o : Op) → Q s os m → ((table : ℕ → Mark) (pc : ℕ) → IsScoped fi fr m.label → AreOpen z ways table → IsLine z f table pc m o) → Q s (os ++ o ∷ []) s
   last s m os o p line = λ w h.
       let a = p (within_left fi fr os (o ∷ []) w) h in
-      record { stretch = λ pc. flow.joins z f (AreOpen z ways) s m s pc os (o ∷ []) (a.stretch pc) (flow.line z f (AreOpen z ways) m (pc + length os) o s (λ table opens own end. line table (pc + length os) a.scoped opens)); scoped = h }
+      record { stretch = λ pc. flow.joins (marked z f) (AreOpen z ways) s m s pc os (o ∷ []) (a.stretch pc) (flow.line (marked z f) (AreOpen z ways) m (pc + length os) o s (λ table opens own end. line table (pc + length os) a.scoped opens)); scoped = h }
 
   way_at : (list : List Way) (table : ℕ → Mark) (q : ℕ) (m : Mark) → AreOpen z list table → IsOpen list q m → (q ≤ z.lines) × Fits z.targets m (table q)
   way_at [] table q m opens h = absurd h

@@ -17,7 +17,6 @@ pub mod Declaring
 pub mod Ending
 pub mod Expressing
 pub mod Fitting
-pub mod Flow
 pub mod Framing
 pub mod Growing
 pub mod Handing
@@ -28,6 +27,7 @@ pub mod Leaving
 pub mod Lines
 pub mod Locking
 pub mod Losing
+pub mod Marked
 pub mod Moves
 pub mod Parts
 pub mod Passing

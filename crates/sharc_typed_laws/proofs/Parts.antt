@@ -1,6 +1,6 @@
 -- The parts of the code of an expression that speak of no type of the source: tests, operators, what is given up, and the checks of places.
-use Rattle.sharc_typed_laws.proofs.{Imports.{◌≡◌, ◌≢◌, ℕ, ◌+◌, ◌<◌, ◌≤◌, ◌⊎◌, Bool, true, false, List, [], ◌∷◌, ◌++◌, length, Some, refl, sym, ap, ◌∙◌, subst, inl, inr, ⊎_elim, arith, length-append, append_assoc, ℤ, false≢true, cases_eq, cases_lt, nat_eq, Site, BinaryOperator, NotEqual, Operator, Width, Char, put, put_same, put_other, put_all, Op, Spot, IsWide, OpWrites, at_site, pointee_code, differ_code, compare_code, logical_code, either_code, Know, know_next, writes_ref, writes_int, number_given, StaticType, Mentions, Entry, Empty, Refers, Number, Anything, Exactly, Within, OfElement, OfGlobal, Nth, Gate, Closed, Label, Less, LessNumber, HasBase, EntryMentions, IsScoped, IsFree, set_number, fill, knows, is_shift, is_comparison, ints_in, refs_in, less_refl, less_entry_refl, less_number_refl, scoped_fill, IsNumberOf, Mark, Setting, Tells, Fits, IsLine, AreWithin, LeadsWithin, RegistersStand, IsNamed, mark, none_some}, Fitting.{fits_same, fits_by}, Standing.{less_by, scoped_frame, unnamed, stands_number, less_number, stands_fill, less_emptied, less_lower}, Telling.{told, other_than, same_as, constant_number}, Rules.{Plain, on_enter, on_constant, on_compute, on_negate, on_complement, on_false, on_same, on_width, on_positive, on_print, on_join, on_nothing, on_pop, on_check}, Closing.within_left}
-use Rattle.sharc_typed_laws.proofs.Flow as flow
+use Rattle.sharc_typed_laws.proofs.{Imports.{◌≡◌, ◌≢◌, ℕ, ◌+◌, ◌<◌, ◌≤◌, ◌⊎◌, Bool, true, false, List, [], ◌∷◌, ◌++◌, length, Some, refl, sym, ap, ◌∙◌, subst, inl, inr, ⊎_elim, arith, length-append, append_assoc, ℤ, false≢true, cases_eq, cases_lt, nat_eq, Site, BinaryOperator, NotEqual, Operator, Width, Char, put, put_same, put_other, put_all, Op, Spot, IsWide, OpWrites, at_site, pointee_code, differ_code, compare_code, logical_code, either_code, Know, know_next, writes_ref, writes_int, number_given, StaticType, Mentions, Entry, Empty, Refers, Number, Anything, Exactly, Within, OfElement, OfGlobal, Nth, Gate, Closed, Label, Less, LessNumber, HasBase, EntryMentions, IsScoped, IsFree, set_number, fill, knows, is_shift, is_comparison, ints_in, refs_in, less_refl, less_entry_refl, less_number_refl, scoped_fill, IsNumberOf, Mark, Setting, Tells, Fits, IsLine, AreWithin, LeadsWithin, RegistersStand, IsNamed, mark, none_some}, Fitting.{fits_same, fits_by}, Standing.{less_by, scoped_frame, unnamed, stands_number, less_number, stands_fill, less_emptied, less_lower}, Telling.{told, other_than, same_as, constant_number}, Rules.{Plain, on_enter, on_constant, on_compute, on_negate, on_complement, on_false, on_same, on_width, on_positive, on_print, on_join, on_nothing, on_pop, on_check}, Closing.within_left, Marked.marked}
+use Rattle.sharc_flat_lemmas.proofs.Flow as flow
 
 -- ---- operations within a frame
 pub within_right : (ints refs : ℕ) (xs ys : List Op) → AreWithin ints refs (xs ++ ys) → AreWithin ints refs ys
@@ -43,21 +43,21 @@ module _ (around : Setting) (f : ℕ) (D : (ℕ → Mark) → Type 0) (named : �
   then_do s m e xs ys p q = λ w h.
       let a = p (within_left fi fr xs ys w) h in
       let b = q (within_right fi fr xs ys w) a.scoped in
-      record { stretch = λ pc. flow.joins around f D s m e pc xs ys (a.stretch pc) (b.stretch (pc + length xs)); scoped = b.scoped }
+      record { stretch = λ pc. flow.joins (marked around f) D s m e pc xs ys (a.stretch pc) (b.stretch (pc + length xs)); scoped = b.scoped }
 
   -- less is said before, and after
   pub post : (s e t : Mark) (os : List Op) → Fits around.targets e t → (Scoped e → Scoped t) → P s os e → P s os t
-  post s e t os fits sc p = λ w h. let a = p w h in record { stretch = λ pc. flow.wider_end around f D s pc os e t fits (a.stretch pc); scoped = sc a.scoped }
+  post s e t os fits sc p = λ w h. let a = p w h in record { stretch = λ pc. flow.wider_end (marked around f) D s pc os e t fits (a.stretch pc); scoped = sc a.scoped }
 
   pub pre : (t s e : Mark) (os : List Op) → Fits around.targets t s → (Scoped t → Scoped s) → P s os e → P t os e
-  pre t s e os fits sc p = λ w h. let a = p w (sc h) in record { stretch = λ pc. flow.wider around f D t s pc os e fits (a.stretch pc); scoped = a.scoped }
+  pre t s e os fits sc p = λ w h. let a = p w (sc h) in record { stretch = λ pc. flow.wider (marked around f) D t s pc os e fits (a.stretch pc); scoped = a.scoped }
 
   pub none : (s e : Mark) → Fits around.targets s e → (Scoped s → Scoped e) → P s [] e
-  none s e fits sc = λ w h. record { stretch = λ pc. flow.nothing around f D s pc e fits; scoped = sc h }
+  none s e fits sc = λ w h. record { stretch = λ pc. flow.nothing (marked around f) D s pc e fits; scoped = sc h }
 
   -- one operation
   pub does : (s : Mark) (o : Op) (e : Mark) → (OpWrites fi fr o → Scoped s → Scoped e) → ((table : ℕ → Mark) (pc : ℕ) → OpWrites fi fr o → Scoped s → Fits around.targets e (table (pc + 1)) → IsLine around f table pc s o) → P s (o ∷ []) e
-  does s o e sc l = λ w h. record { stretch = λ pc. flow.line around f D s pc o e (λ table d le next. l table pc w.0 h next); scoped = sc w.0 h }
+  does s o e sc l = λ w h. record { stretch = λ pc. flow.line (marked around f) D s pc o e (λ table d le next. l table pc w.0 h next); scoped = sc w.0 h }
 
   pub before : (s m : Mark) (o : Op) (os : List Op) (e : Mark) → P s (o ∷ []) m → P m os e → P s (o ∷ os) e
   before s m o os e p q = then_do s m e (o ∷ []) os p q
@@ -360,7 +360,7 @@ module _ (around : Setting) (f : ℕ) (D : (ℕ → Mark) → Type 0) (named : �
       let s = mark l from i in
       let a = p (within_left fi fr xs ys w.1) h in
       let b = q (within_right fi fr xs ys w.1) a.scoped in
-      record { stretch = λ pc. flow.over around f D s (mark k from i) e pc i xs ys (plain_at i r l i at h) less (a.stretch (pc + 1)) (b.stretch (pc + 1 + length xs)); scoped = b.scoped }
+      record { stretch = λ pc. flow.over (marked around f) D s (mark k from i) e pc i xs ys (plain_at i r l i at h) less (a.stretch (pc + 1)) (b.stretch (pc + 1 + length xs)); scoped = b.scoped }
 
   -- the second operand, after the first one
   module _ (i r : ℕ) (k m : Label) (at : At i r k) (at2 : At i r m) (less : Less k m) (s : Mark) (xs ys : List Op) (p : P s xs (mark k from i)) (q : P (mark k from i) ys (mark m from i)) where

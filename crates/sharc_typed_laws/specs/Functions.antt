@@ -7,8 +7,9 @@ use Rattle.sharc_ctype.specs.Resolved.{function_at}
 use Rattle.sharc_mode.specs.Moded.{Assignment}
 use Rattle.sharc_flat.specs.{declared.op.Op.Op, Scope.{Context, int_count, ref_count}}
 use Rattle.sharc_flat.specs.Flattened.{in_function, function_code}
+use Rattle.sharc_flat_lemmas.specs.Pieces.{Agrees, first}
 use Rattle.sharc_invariant.specs.Typed.{ints_in, refs_in}
-use Rattle.sharc_typed_laws.specs.Stretches.{Mark, Setting, Fits, Agrees, AreLines, AreWithin, first}
+use Rattle.sharc_typed_laws.specs.Stretches.{Mark, Setting, Fits, AreLines, AreWithin}
 use Rattle.sharc_typed_laws.specs.{Places.{IsNamed, AreLow}, Premises.Typing, Declared.before, Begun.label_of}
 use Rattle.sharc_typed_laws.specs.{Returned.GivesBack, Statements.StatementsTypable}
 

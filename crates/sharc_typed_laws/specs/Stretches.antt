@@ -1,8 +1,9 @@
 -- Stretches of flat code, with what is said before each of their lines.
-use Rattle.std.specs.Prelude.{ℕ, ◌+◌, ◌≡◌, ◌<◌, ◌≤◌, Bool, true, List, [], ◌∷◌, length, Some}
+use Rattle.std.specs.Prelude.{ℕ, ◌+◌, ◌≡◌, ◌<◌, ◌≤◌, Bool, true, List, [], ◌∷◌, Some}
 use Rattle.sharc_code.specs.{declared.code.Code.Code, declared.instr.Cell.Cell}
 use Rattle.sharc_code.specs.declared.instr.Cell.TheVariants as cells
 use Rattle.sharc_flat.specs.{declared.op.Op.Op, Framed.OpWrites}
+use Rattle.sharc_flat_lemmas.specs.Pieces.{Levels, Piece}
 use Rattle.sharc_guard.specs.Known.{is_straight, leads_to, Access, access, Know, know_next}
 use Rattle.sharc_invariant.specs.Types.{Targets, StaticType}
 use Rattle.sharc_invariant.specs.Labels.{Pass, IsIn, Label, Signature, Labels, Less, IsScoped}
@@ -69,28 +70,12 @@ pub record IsLine (z : Setting) (f : ℕ) (table : ℕ → Mark) (pc : ℕ) (s :
   pub tells : is_straight o ≡ true → (k : Know) → Tells z.targets k s → Tells z.targets (know_next o k) (table (pc + 1))
 
 -- ---- lines one after the other
-abbrev pub Agrees : (ℕ → Mark) → ℕ → List Mark → Type 0
-Agrees table pc [] = Unit {0}
-Agrees table pc (s ∷ rest) = (table pc ≡ s) × Agrees table (pc + 1) rest
-
 abbrev pub AreLines : Setting → ℕ → (ℕ → Mark) → ℕ → List Op → Type 0
-AreLines z f table pc [] = Unit {0}
-AreLines z f table pc (o ∷ os) = IsLine z f table pc (table pc) o × AreLines z f table (pc + 1) os
+AreLines z f = Levels (IsLine z f)
 
--- at the first of them, or after them where there is none
-abbrev pub first : List Mark → Mark → Mark
-first [] e = e
-first (s ∷ rest) e = s
-
--- A stretch of function f that begins at this line: what is said before each of its lines, in code of whose labels this
--- is known, and with no more said after it.
-pub record Stretch (z : Setting) (f : ℕ) (known : (ℕ → Mark) → Type 0) (s : Mark) (pc : ℕ) (os : List Op)
-    (e : Mark) : Type 0 where
-  pub marks : List Mark
-  pub many : length marks ≡ length os
-  pub begins : Fits z.targets s (first marks e)
-  pub runs : (table : ℕ → Mark) → known table → pc + length os ≤ z.lines → Agrees table pc marks
-      → Fits z.targets e (table (pc + length os)) → AreLines z f table pc os
+-- A stretch of function f: a piece of its code, with what is said before each of its lines.
+abbrev pub Stretch : Setting → ℕ → ((ℕ → Mark) → Type 0) → Mark → ℕ → List Op → Mark → Type 0
+Stretch z f = Piece (Fits z.targets) (λ q. q ≤ z.lines) (IsLine z f)
 
 -- what the operations write is in the frame
 abbrev pub AreWithin : ℕ → ℕ → List Op → Type 0
