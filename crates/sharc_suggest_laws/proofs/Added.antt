@@ -5,8 +5,7 @@ none_added : (c : Recast) (n from until : ℕ) (old new : List Entity) → n ≡
 none_added c n from until old [] zero_many grown = sym grown.0
 none_added c n from until old (e ∷ new) zero_many (inl w) = ap (λ (l : List Entity). e ∷ l) (none_added c n (e.token + 1) until w.0 new zero_many w.4) ∙ sym w.1
 none_added c n from until old (e ∷ new) zero_many (inr w) =
-    let more : n ≡ w.0 + 1 = w.1 in
-    absurd (omega (arith, zero_many, more))
+    absurd (omega (arith, zero_many, w.1))
 
 -- it is added once, after what begins before it
 record IsAddedFrom (c : Recast) (from : ℕ) (old new : List Entity) : Type 0 where
@@ -16,7 +15,6 @@ record IsAddedFrom (c : Recast) (from : ℕ) (old new : List Entity) : Type 0 wh
 -- an old one comes before the rest
 before_rest : (c : Recast) (from : ℕ) (e : Entity) (old rest new : List Entity) → old ≡ e ∷ rest → from ≤ e.token → IsAddedFrom c (e.token + 1) rest new → IsAddedFrom c from old (e ∷ new)
 before_rest c from e old rest new is begins more =
-    let low : e.token + 1 ≤ c.from = more.low in
     record {
       once = record {
         before = e ∷ more.once.before;
@@ -26,19 +24,17 @@ before_rest c from e old rest new is begins more =
         last = more.once.last;
         had = is ∙ ap (λ (l : List Entity). e ∷ l) more.once.had;
         has = ap (λ (l : List Entity). e ∷ l) more.once.has;
-        earlier = (omega (arith, low), more.once.earlier);
+        earlier = (omega (arith, more.low), more.once.earlier);
       };
-      low = omega (arith, low, begins);
+      low = omega (arith, more.low, begins);
     }
 
 added_from : (c : Recast) (n from until : ℕ) (old new : List Entity) → n ≡ 1 → Grown c n from until old new → IsAddedFrom c from old new
 added_from c n from until old [] one grown =
-    let zero_many : n ≡ 0 = grown.1 in
-    absurd (omega (arith, one, zero_many))
+    absurd (omega (arith, one, grown.1))
 added_from c n from until old (e ∷ new) one (inl w) = before_rest c from e old w.0 new w.1 w.2 (added_from c n (e.token + 1) until w.0 new one w.4)
 added_from c n from until old (e ∷ new) one (inr w) =
-    let more : n ≡ w.0 + 1 = w.1 in
-    let zero_many : w.0 ≡ 0 = omega (arith, one, more) in
+    let zero_many : w.0 ≡ 0 = omega (arith, one, w.1) in
     record {
       once = record {
         before = [];

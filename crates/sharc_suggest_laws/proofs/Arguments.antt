@@ -1,5 +1,5 @@
 -- What is given to a parameter is an argument of its call, and at most this many of its arguments meet a test.
-use Rattle.sharc_suggest_laws.proofs.Imports.{◌≡◌, ℕ, zero, suc, ◌+◌, ◌<◌, ◌≤◌, Bool, true, List, Option, Some, None, ap, sym, ◌∙◌, arith, AllByRecursion, Expression, Arguments, no_arguments, argument, Receiver, of_parameter, Giving, count_of, met_by, met_inside, met_inside_all}
+use Rattle.sharc_suggest_laws.proofs.Imports.{◌≡◌, ℕ, zero, suc, ◌+◌, ◌<◌, ◌≤◌, Bool, true, List, Option, Some, None, ap, sym, ◌∙◌, arith, AllByRecursion, Expression, Arguments, no_arguments, argument, Receiver, of_parameter, Giving, count_of, met_by, met_inside, met_inside_all, none_some, one_some}
 
 abbrev pub nth : ℕ → Arguments → Option Expression
 nth k no_arguments = None
@@ -22,17 +22,11 @@ args_few test (argument a rest) =
 met_one : (test : Expression → Bool) (a : Expression) → test a ≡ true → met_by test a ≡ 1
 met_one test a is = ap count_of is
 
-no_expression : (a : Expression) → None ≡ Some a → ⊥
-no_expression a is = cc
-
-one_expression : (a b : Expression) → Some a ≡ Some b → a ≡ b
-one_expression a b is = cc
-
 some_met : (test : Expression → Bool) (all : Arguments) (k : ℕ) (a : Expression) → nth k all ≡ Some a → test a ≡ true → 0 < args_met test all
-some_met test no_arguments k a is holds = absurd (no_expression a is)
+some_met test no_arguments k a is holds = absurd (none_some a is)
 some_met test (argument x rest) zero a is holds =
     let one : met_by test a ≡ 1 = met_one test a holds in
-    let same : met_by test x ≡ met_by test a = ap (met_by test) (one_expression x a is) in
+    let same : met_by test x ≡ met_by test a = ap (met_by test) (one_some x a is) in
     let sum : 0 < met_by test x + args_met test rest = omega (arith, one, same) in
     sum
 some_met test (argument x rest) (suc k) a is holds =
@@ -41,16 +35,16 @@ some_met test (argument x rest) (suc k) a is holds =
     sum
 
 pub one_nth : (test : Expression → Bool) (all : Arguments) → args_met test all ≤ 1 → (j k : ℕ) (a b : Expression) → nth j all ≡ Some a → nth k all ≡ Some b → test a ≡ true → test b ≡ true → a ≡ b
-one_nth test no_arguments few j k a b at there holds_a holds_b = absurd (no_expression a at)
-one_nth test (argument x rest) few zero zero a b at there holds_a holds_b = sym (one_expression x a at) ∙ one_expression x b there
+one_nth test no_arguments few j k a b at there holds_a holds_b = absurd (none_some a at)
+one_nth test (argument x rest) few zero zero a b at there holds_a holds_b = sym (one_some x a at) ∙ one_some x b there
 one_nth test (argument x rest) few zero (suc k) a b at there holds_a holds_b =
     let sum : met_by test x + args_met test rest ≤ 1 = few in
-    let one : met_by test x ≡ 1 = ap (met_by test) (one_expression x a at) ∙ met_one test a holds_a in
+    let one : met_by test x ≡ 1 = ap (met_by test) (one_some x a at) ∙ met_one test a holds_a in
     let more : 0 < args_met test rest = some_met test rest k b there holds_b in
     absurd (omega (arith, sum, one, more))
 one_nth test (argument x rest) few (suc j) zero a b at there holds_a holds_b =
     let sum : met_by test x + args_met test rest ≤ 1 = few in
-    let one : met_by test x ≡ 1 = ap (met_by test) (one_expression x b there) ∙ met_one test b holds_b in
+    let one : met_by test x ≡ 1 = ap (met_by test) (one_some x b there) ∙ met_one test b holds_b in
     let more : 0 < args_met test rest = some_met test rest j a at holds_a in
     absurd (omega (arith, sum, one, more))
 one_nth test (argument x rest) few (suc j) (suc k) a b at there holds_a holds_b =

@@ -1,5 +1,5 @@
 -- Calls of condition variables that a program does not define: what the file knows of their names, and what the token of one names with the cast written.
-use Rattle.sharc_suggest_laws.proofs.{Imports.{◌≡◌, ◌⊎◌, inl, inr, ⊎_elim, ℕ, ◌<◌, ◌≤◌, ◌==◌, ◌||◌, Bool, true, false, cond, List, [], ◌∷◌, ◌++◌, length, get_or, Option, Some, None, is_some, bytes_eq, codes, refl, ap, sym, ◌∙◌, eqb-true, false≢true, cases_lt, AllByRecursion, lookup, Declaration, StructDefinition, Item, structure, global, function, Named, Wait, Signal, Broadcast, Scope, Entry, StructMeaning, StructTable, look_up, struct_of, named_of, Note, fault, refers, yields, is_free, defines_condition, call_entry, with_conditions, Heading, with_struct, with_entry, global_entry, function_entry, behind, behind_all, no_heads, file_scope, notes_about, named_in, Resolution, named_at, is_field, is_call_name, is_call_at}, Folded.{seen, named_seen, named_past, IsOwnAt}, Noted.{IsHarmless, Noted, done, kept, added, old_fault, new_fault}, Filed.no_entry}
+use Rattle.sharc_suggest_laws.proofs.{Imports.{◌≡◌, ◌⊎◌, inl, inr, ⊎_elim, ℕ, ◌<◌, ◌≤◌, ◌==◌, ◌||◌, Bool, true, false, cond, List, [], ◌∷◌, ◌++◌, length, get_or, Option, Some, None, is_some, bytes_eq, codes, refl, ap, sym, ◌∙◌, eqb-true, false≢true, cases_lt, AllByRecursion, lookup, Declaration, StructDefinition, Item, structure, global, function, Named, Wait, Signal, Broadcast, Scope, Entry, StructTable, look_up, struct_of, named_of, Note, fault, refers, yields, is_free, defines_condition, call_entry, with_conditions, Heading, with_struct, with_entry, global_entry, function_entry, behind, behind_all, no_heads, file_scope, notes_about, named_in, Resolution, named_at, is_field, is_call_name, is_call_at, none_some, one_some}, Folded.{seen, named_seen, named_past, IsOwnAt}, Noted.{IsHarmless, Noted, done, kept, added, old_fault, new_fault}}
 use Rattle.sharc_names.specs.Names as meaning
 
 -- ---- a file that knows something that it does not define
@@ -29,9 +29,6 @@ pub record IsDefined (file : Scope) : Type 0 where
 entry_defined : (scope : List Entry) (x : Entry) → (named_of x.meaning ≡ Named.Known → ⊥) → NoCall scope → NoCall (with_entry x scope)
 entry_defined scope x other none text e found known = by (is_some (look_up scope x.name)) found
   where
-    one_some : (a b : Entry) → Some a ≡ Some b → a ≡ b
-    one_some a b h = cc
-
     inner : (c : Bool) → cond c (Some x) (look_up scope text) ≡ Some e → ⊥
     inner true is = other (ap (λ (z : Entry). named_of z.meaning) (one_some x e is) ∙ known)
     inner false is = none text e is known
@@ -70,10 +67,7 @@ items_defined h [] all = all
 items_defined h (i ∷ rest) all = items_defined (behind h i) rest (item_defined h i all)
 
 pub none_defined : IsDefined no_heads.scope
-none_defined = record { names = λ text e found known. no_entry e found; structs = λ name found. no_struct found }
-  where
-    no_struct : None ≡ Some meaning.known → ⊥
-    no_struct h = cc
+none_defined = record { names = λ text e found known. none_some e found; structs = λ name found. none_some meaning.known found }
 
 pub not_known : (file : Scope) → IsDefined file → KnowsCalls file → ⊥
 not_known file all (inl there) = all.names there.0 there.1 there.2 there.3
@@ -85,9 +79,6 @@ calls_known items knows text called e found = by (defines_condition defined) kno
   where
     defined : Scope
     defined = (behind_all no_heads items).scope
-
-    one_some : (a b : Entry) → Some a ≡ Some b → a ≡ b
-    one_some a b h = cc
 
     of_call : (w s b : Bool) (rest : Option Entry) → (w || (s || b)) ≡ true
         → cond b (Some (call_entry (codes "broadcast") Broadcast)) (cond s (Some (call_entry (codes "signal") Signal)) (cond w (Some (call_entry (codes "wait") Wait)) rest)) ≡ Some e → named_of e.meaning ≡ Named.Known

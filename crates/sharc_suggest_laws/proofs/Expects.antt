@@ -1,6 +1,6 @@
 -- What is expected of a value that is given in a typed program: as many modes as the receiver has stars, whose lock
 -- paths lead to something.
-use Rattle.sharc_suggest_laws.proofs.{Imports.{◌≡◌, ℕ, zero, suc, ◌+◌, ◌==◌, Bool, true, false, cond, List, [], ◌∷◌, drop, Option, Some, None, option_map, refl, ap, sym, subst, ◌∙◌, eqb-true, arith, false≢true, and_parts, AllByRecursion, Base, Declaration, Identifier, WrittenType, Expression, identifier, Arguments, no_arguments, argument, Function, Named, Kind, object, null, agrees, is_integer, is_integral, is_null, is_pointer, same_kind, stars_of, declared_kind, Entity, declared, entity_at, Resolution, functions_in, declaration_at, function_at, named_at, named_kind, variable_kind, kind_at, IsFair, parameters_of, parameters_named, passed, IsItself, HasWrittenLocks, expected, Assignment, IsWhole, written, at_call, Targets, argument_use, constant_use, declared_row, entity_row, is_constant_named, modes_of, row_at, Sharing, beyond, Receiver, of_declared, of_left, of_parameter, wanted, at_place, one_some}, Given.{Declares, FirstFits, Receives, IsWellFunction}, Leads.{ArgumentsFit, IsVariableAt}, ModesKept.{HasModes, modes_of_row}, Retyped.one_kind, Targets.{IsRow, IsRowOf, IsKnownProgram, own_row, targets_of}}
+use Rattle.sharc_suggest_laws.proofs.{Imports.{◌≡◌, ℕ, zero, suc, ◌+◌, ◌==◌, Bool, true, false, cond, List, [], ◌∷◌, drop, Option, Some, None, option_map, refl, ap, sym, subst, ◌∙◌, eqb-true, arith, false≢true, and_parts, AllByRecursion, Base, Declaration, Identifier, WrittenType, Expression, identifier, Arguments, no_arguments, argument, Function, Named, Kind, object, null, agrees, is_integer, is_integral, is_null, is_pointer, same_kind, stars_of, declared_kind, Entity, declared, entity_at, Resolution, functions_in, declaration_at, function_at, named_at, named_kind, variable_kind, kind_at, IsFair, parameters_of, parameters_named, passed, IsItself, HasWrittenLocks, expected, Assignment, IsWhole, written, at_call, Targets, argument_use, constant_use, declared_row, entity_row, is_constant_named, modes_of, row_at, Sharing, beyond, Receiver, of_declared, of_left, of_parameter, wanted, at_place, one_some, none_some}, Given.{Declares, FirstFits, Receives, IsWellFunction}, Leads.{ArgumentsFit, IsVariableAt}, ModesKept.{HasModes, modes_of_row}, Retyped.one_kind, Targets.{IsRow, IsRowOf, IsKnownProgram, own_row, targets_of}}
 
 -- ---- what agrees with what (6.5.16.1)
 
@@ -48,19 +48,13 @@ use_fits : (r : Resolution) (i : Identifier) (v : Named) → named_at r i.site.t
     → IsVariableAt r y × (named_kind r (named_at r y) ≡ object b (n + 1))
 use_fits r i (Named.Variable x) at y is b n fit = by (is_constant_named r (Named.Variable x)) is
   where
-    none_some : None ≡ Some y → ⊥
-    none_some h = cc
-
     by : (z : Bool) → cond z (Some i.site.token) None ≡ Some y → IsVariableAt r y × (named_kind r (named_at r y) ≡ object b (n + 1))
     by true h =
         let there : i.site.token ≡ y = one_some i.site.token y h in
         let name : named_at r y ≡ Named.Variable x = ap (named_at r) (sym there) ∙ at in
         ((x, name), ap (named_kind r) name ∙ pointer_agreed b n (named_kind r (Named.Variable x)) (agreed b (n + 1) (named_kind r (Named.Variable x)) (variable_not_null (declaration_at r x)) fit))
-    by false h = absurd (none_some h)
+    by false h = absurd (none_some y h)
 use_fits r i _ at y is b n fit = absurd (none_some y is)
-  where
-    none_some : (y : ℕ) → None ≡ Some y → ⊥
-    none_some y h = cc
 
 argument_fits : (r : Resolution) (a : Expression) (y : ℕ) → constant_use r a ≡ Some y → (b : Base) (n : ℕ) → agrees (object b (n + 1)) (kind_at r a) ≡ true → IsVariableAt r y × (named_kind r (named_at r y) ≡ object b (n + 1))
 argument_fits r (identifier s i) y is b n fit = use_fits r i (named_at r i.site.token) refl y is b n fit
@@ -68,13 +62,7 @@ argument_fits r _ y is b n fit = absurd (cc)
 
 pub arguments_fit : (r : Resolution) (ds : List Declaration) (all : Arguments) → AllByRecursion (IsItself r Named.Variable) ds → AllByRecursion (IsFair r) (passed ds all) → ArgumentsFit r ds all
 arguments_fit r [] all own fair = λ t y is b n kind. absurd (none_some y is)
-  where
-    none_some : (y : ℕ) → None ≡ Some y → ⊥
-    none_some y h = cc
 arguments_fit r (d ∷ rest) no_arguments own fair = λ t y is b n kind. absurd (none_some y is)
-  where
-    none_some : (y : ℕ) → None ≡ Some y → ⊥
-    none_some y h = cc
 arguments_fit r (d ∷ rest) (argument a more) own fair = λ t y is b n kind. by t y (d.name.site.token == t) refl is (arguments_fit r rest more own.1 fair.1 t y) b n kind
   where
     by : (t y : ℕ) (z : Bool) → d.name.site.token == t ≡ z → cond z (constant_use r a) (argument_use r rest more t) ≡ Some y
@@ -112,16 +100,10 @@ pub record IsExpected (m : Assignment) (e : Expression) (modes : List Sharing) :
   pub fits : agrees (object base stars) (kind_at m.typed e) ≡ true
   pub has : HasModes m stars modes
 
-pub no_modes : (l : List Sharing) → None ≡ Some l → ⊥
-no_modes l h = cc
-
-pub same_modes : (a b : List Sharing) → Some a ≡ Some b → a ≡ b
-same_modes a b h = cc
-
 of_row : (m : Assignment) → IsWhole m → HasWrittenLocks m → (e : Expression) (b : Base) (n : ℕ) → agrees (object b n) (kind_at m.typed e) ≡ true → (row : Targets) → IsRow m.typed n row → (modes : List Sharing) → Some (modes_of m row) ≡ Some modes
     → IsExpected m e modes
 of_row m whole locks e b n fit row is modes wants =
-    record { base = b; stars = n; fits = fit; has = subst (HasModes m n) (same_modes (modes_of m row) modes wants) (modes_of_row m whole locks n row is) }
+    record { base = b; stars = n; fits = fit; has = subst (HasModes m n) (one_some (modes_of m row) modes wants) (modes_of_row m whole locks n row is) }
 
 left_expected : (m : Assignment) → IsWhole m → HasWrittenLocks m → (e : Expression) (k : Kind) → agrees k (kind_at m.typed e) ≡ true → (o : Option Targets) → IsRowOf m.typed k o → (modes : List Sharing) → option_map (modes_of m) o ≡ Some modes → IsExpected m e modes
 left_expected m whole locks e k fit o is modes wants =
@@ -134,7 +116,7 @@ left_expected m whole locks e k fit o is modes wants =
 
 parameter_expected : (m : Assignment) → IsWhole m → HasWrittenLocks m → IsKnownProgram m.typed → (ds : List Declaration) (all : Arguments) → ArgumentsFit m.typed ds all → (left : List Declaration) → AllByRecursion (IsItself m.typed Named.Variable) left → (e : Expression)
     → FirstFits m.typed left e → (modes : List Sharing) → expected m ds all left ≡ Some modes → IsExpected m e modes
-parameter_expected m whole locks known ds all fit [] own e first modes wants = absurd (no_modes modes wants)
+parameter_expected m whole locks known ds all fit [] own e first modes wants = absurd (none_some modes wants)
 parameter_expected m whole locks known ds all fit (d ∷ rest) own e first modes wants =
     let found = known.declarations d.name.site.token d own.0.1 in
     of_row m whole locks e d.written.ctype.base (stars_of d.written) first (declared_row m.typed (at_call ds all) d.name.site.token) (own_row m.typed (declared found.0 d) found.1 found.3 (at_call ds all) fit) modes wants

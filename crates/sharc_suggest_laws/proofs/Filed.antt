@@ -1,6 +1,6 @@
 -- What a name that is found means is what the resolved program has of what it names, and the file knows each struct
 -- with its fields.
-use Rattle.sharc_suggest_laws.proofs.Imports.{◌≡◌, ℕ, zero, suc, ◌+◌, Bool, true, false, cond, List, [], ◌∷◌, ◌++◌, Some, None, is_some, slice_get, bytes_eq, codes, refl, ap, sym, subst, ◌∙◌, arith, false≢true, bytes_eq-Decides, lookup, GlobalDefinition, StructDefinition, Function, Item, structure, global, function, ConditionCall, Wait, Signal, Broadcast, Scope, Entry, Meaning, StructMeaning, StructTable, defined, known, look_up, struct_of, named_of, kind_of, is_main, Named, defines_condition, call_entry, with_conditions, Heading, with_struct, with_entry, global_entry, function_entry, behind, behind_all, no_heads, file_scope, Resolution, structs_in, globals_in, functions_in, global_at, function_at, named_kind, global_kind_of, struct_named}
+use Rattle.sharc_suggest_laws.proofs.Imports.{◌≡◌, ℕ, zero, suc, ◌+◌, Bool, true, false, cond, List, [], ◌∷◌, ◌++◌, Some, None, is_some, slice_get, bytes_eq, codes, refl, ap, sym, subst, ◌∙◌, arith, false≢true, bytes_eq-Decides, lookup, GlobalDefinition, StructDefinition, Function, Item, structure, global, function, ConditionCall, Wait, Signal, Broadcast, Scope, Entry, Meaning, StructMeaning, StructTable, defined, known, look_up, struct_of, named_of, kind_of, is_main, Named, defines_condition, call_entry, with_conditions, Heading, with_struct, with_entry, global_entry, function_entry, behind, behind_all, no_heads, file_scope, Resolution, structs_in, globals_in, functions_in, global_at, function_at, named_kind, global_kind_of, struct_named, none_some, one_some}
 use Rattle.sharc_names.specs.Names as meaning
 
 -- ---- what is found
@@ -16,9 +16,6 @@ AreMeant r names = (text : List ℕ) (e : Entry) → look_up names text ≡ Some
 entry_meant : (r : Resolution) (scope : List Entry) (x : Entry) → IsMeant r x.meaning → AreMeant r scope → AreMeant r (with_entry x scope)
 entry_meant r scope x new all text e found = by (is_some (look_up scope x.name)) found
   where
-    one_some : (a b : Entry) → Some a ≡ Some b → a ≡ b
-    one_some a b h = cc
-
     inner : (c : Bool) → cond c (Some x) (look_up scope text) ≡ Some e → IsMeant r e.meaning
     inner true is = subst (λ (z : Entry). IsMeant r z.meaning) (one_some x e is) new
     inner false is = all text e is
@@ -69,9 +66,6 @@ calls_meant : (r : Resolution) (file : Scope) (b : Bool) → AreMeant r file.nam
 calls_meant r file true all = all
 calls_meant r file false all = λ text e found. by text e (bytes_eq (codes "broadcast") text) (bytes_eq (codes "signal") text) (bytes_eq (codes "wait") text) found
   where
-    one_some : (a b : Entry) → Some a ≡ Some b → a ≡ b
-    one_some a b h = cc
-
     by : (text : List ℕ) (e : Entry) (x y z : Bool)
         → cond x (Some (call_entry (codes "broadcast") Broadcast)) (cond y (Some (call_entry (codes "signal") Signal)) (cond z (Some (call_entry (codes "wait") Wait)) (look_up file.names text))) ≡ Some e → IsMeant r e.meaning
     by text e true y z is = subst (λ (w : Entry). IsMeant r w.meaning) (one_some (call_entry (codes "broadcast") Broadcast) e is) (call_meant r Broadcast)
@@ -79,15 +73,12 @@ calls_meant r file false all = λ text e found. by text e (bytes_eq (codes "broa
     by text e false false true is = subst (λ (w : Entry). IsMeant r w.meaning) (one_some (call_entry (codes "wait") Wait) e is) (call_meant r Wait)
     by text e false false false is = all text e is
 
-pub no_entry : (e : Entry) → None ≡ Some e → ⊥
-no_entry e h = cc
-
 pub file_meant : (r : Resolution) → AreMeant r (file_scope r.program.items).names
 file_meant r =
     let items : List Item = r.program.items in
     let begins : IsAhead r no_heads items =
     record { globals = λ k g is. ap (global_at r) (zero_first k) ∙ is; functions = λ k f is. ap (function_at r) (zero_first k) ∙ is } in
-    calls_meant r (behind_all no_heads items).scope (defines_condition (behind_all no_heads items).scope) (items_meant r no_heads items begins (λ text e found. absurd (no_entry e found)))
+    calls_meant r (behind_all no_heads items).scope (defines_condition (behind_all no_heads items).scope) (items_meant r no_heads items begins (λ text e found. absurd (none_some e found)))
   where
     zero_first : (k : ℕ) → 0 + k ≡ k
     zero_first k = omega arith
@@ -95,10 +86,7 @@ file_meant r =
 -- ---- the structs
 
 lookup_first : (test : List ℕ → Bool) (rows : StructTable) (key : List ℕ) (x y : StructMeaning) → lookup test rows ≡ Some x → lookup test (rows ++ (key, y) ∷ []) ≡ Some x
-lookup_first test [] key x y is = absurd (no_struct x is)
-  where
-    no_struct : (s : StructMeaning) → None ≡ Some s → ⊥
-    no_struct s h = cc
+lookup_first test [] key x y is = absurd (none_some x is)
 lookup_first test ((k, s) ∷ rest) key x y is = by (test k) is (lookup_first test rest key x y)
   where
     by : (b : Bool) → cond b (Some s) (lookup test rest) ≡ Some x → (lookup test rest ≡ Some x → lookup test (rest ++ (key, y) ∷ []) ≡ Some x) → cond b (Some s) (lookup test (rest ++ (key, y) ∷ [])) ≡ Some x
@@ -109,11 +97,8 @@ lookup_last : (test : List ℕ → Bool) (rows : StructTable) (key : List ℕ) (
 lookup_last test [] key y none = refl
 lookup_last test ((k, s) ∷ rest) key y none = by (test k) none (lookup_last test rest key y)
   where
-    some_no : Some s ≡ None → ⊥
-    some_no h = cc
-
     by : (b : Bool) → cond b (Some s) (lookup test rest) ≡ None → (lookup test rest ≡ None → lookup test (rest ++ (key, y) ∷ []) ≡ cond (test key) (Some y) None) → cond b (Some s) (lookup test (rest ++ (key, y) ∷ [])) ≡ cond (test key) (Some y) None
-    by true h more = absurd (some_no h)
+    by true h more = absurd (none_some s (sym h))
     by false h more = more h
 
 struct_stays : (structs : StructTable) (n : ℕ) (s : StructDefinition) (name : List ℕ) (x : StructMeaning) → struct_of structs name ≡ Some x → struct_of (with_struct structs n s) name ≡ Some x
@@ -155,15 +140,9 @@ other_struct structs n s name none other = by (is_some (struct_of structs s.name
     by false = lookup_last (bytes_eq name) structs s.name.text (meaning.defined n s.fields) none ∙ turned (bytes_eq name s.name.text) refl
 
 struct_filed : (h : Heading) (items : List Item) (name : List ℕ) (s : StructDefinition) → struct_of h.scope.structs name ≡ None → struct_named (structs_in items) name ≡ Some s → IsFiled (behind_all h items).scope.structs name s
-struct_filed h [] name s none is = absurd (no_struct s is)
-  where
-    no_struct : (s : StructDefinition) → None ≡ Some s → ⊥
-    no_struct s h = cc
+struct_filed h [] name s none is = absurd (none_some s is)
 struct_filed h (structure x ∷ rest) name s none is = by (bytes_eq x.name.text name) refl (struct_filed (behind h (structure x)) rest name s) is
   where
-    one_some : (a b : StructDefinition) → Some a ≡ Some b → a ≡ b
-    one_some a b h = cc
-
     by : (b : Bool) → bytes_eq x.name.text name ≡ b
         → (struct_of (behind h (structure x)).scope.structs name ≡ None → struct_named (structs_in rest) name ≡ Some s → IsFiled (behind_all (behind h (structure x)) rest).scope.structs name s)
         → cond b (Some x) (struct_named (structs_in rest) name) ≡ Some s → IsFiled (behind_all (behind h (structure x)) rest).scope.structs name s

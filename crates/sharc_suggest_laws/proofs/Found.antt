@@ -1,5 +1,5 @@
 -- What is determined by two tokens, where one more that has a type is in the list.
-use Rattle.sharc_suggest_laws.proofs.Imports.{◌≡◌, ℕ, ◌+◌, ◌<◌, ◌≤◌, ◌==◌, ◌&&◌, Bool, true, false, cond, ◌⊎◌, inl, inr, List, [], ◌∷◌, ◌++◌, Option, Some, None, refl, ap, sym, subst, ◌∙◌, arith, cond-false, and_left, ne_eqb, true≢false, false≢true, find, AllByRecursion, Entity, Numbered, positions_of, positions_in, numbered_from, is_told_by}
+use Rattle.sharc_suggest_laws.proofs.Imports.{◌≡◌, ℕ, ◌+◌, ◌<◌, ◌≤◌, ◌==◌, ◌&&◌, Bool, true, false, cond, ◌⊎◌, inl, inr, List, [], ◌∷◌, ◌++◌, Option, Some, None, refl, ap, sym, subst, ◌∙◌, arith, cond-false, and_left, ne_eqb, true≢false, false≢true, find, AllByRecursion, Entity, Numbered, positions_of, positions_in, numbered_from, is_told_by, none_some}
 
 -- the same is there, before the positions that were added, or after them and that many further on
 pub record IsMoved (first count : ℕ) (old new : Numbered) : Type 0 where
@@ -58,11 +58,8 @@ numbered_as e n = Some (numbered_of e n)
 
 -- ---- and what was added is found itself, where nothing before it is
 
-no_some : (n : Numbered) → Some n ≡ None → ⊥
-no_some n is = cc
-
 nothing_by : (b : Bool) (n : Numbered) (found : Option Numbered) → cond b (Some n) found ≡ None → (b ≡ false) × (found ≡ None)
-nothing_by true n found is = absurd (no_some n is)
+nothing_by true n found is = absurd (none_some n (sym is))
 nothing_by false n found is = (refl, is)
 
 found_by : (b : Bool) (n : Numbered) (found : Option Numbered) → b ≡ true → cond b (Some n) found ≡ Some n
@@ -85,6 +82,5 @@ found_itself test x is_so k (e ∷ before) behind none =
 pub none_told : (from until k : ℕ) (list : List Entity) → AllByRecursion (λ (e : Entity). e.token < from) list → find (is_told_by from until) (numbered_from k list) ≡ None
 none_told from until k [] all = refl
 none_told from until k (e ∷ rest) all =
-    let low : e.token < from = all.0 in
-    let other : (e.token == from && e.last == until) ≡ false = and_left (e.token == from) (e.last == until) (ne_eqb e.token from (λ same. omega (arith, same, low))) in
+    let other : (e.token == from && e.last == until) ≡ false = and_left (e.token == from) (e.last == until) (ne_eqb e.token from (λ same. omega (arith, same, all.0))) in
     cond-false (e.token == from && e.last == until) (Some (numbered_of e k)) (find (is_told_by from until) (numbered_from (k + positions_of e) rest)) other ∙ none_told from until (k + positions_of e) rest all.1

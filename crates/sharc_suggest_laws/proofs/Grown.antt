@@ -1,5 +1,5 @@
 -- What has a type in an expression at its tokens with a cast written in it: what had one before, in its order, and that many times the cast, which is after all that begins before it.
-use Rattle.sharc_suggest_laws.proofs.{Imports.{◌≡◌, ℕ, ◌+◌, ◌<◌, ◌≤◌, ◌==◌, Bool, true, false, ◌&&◌, ◌⊎◌, inl, inr, List, [], ◌∷◌, ◌++◌, map, refl, ap, sym, subst, subst₂, if◌then◌else◌, eqb-true, arith, and_parts, Span, Token, Declaration, expressions, in_arguments, Follow, point, argument_spans, declaration_spans, PlacedDeclaration, PlacedDeclarations, Placed, AllPlaced, span_of, Expression, identifier, constant, parentheses, call, spawn, on_value, on_place, cast, index, field, unary, binary, Arguments, no_arguments, argument, Role, Recast, type_at, is_there, around, with_cast, all_with_cast, count_of, met_by, met_inside, met_inside_all, met_at, Entity, declared, casts, cast_entity}, Follows.split}
+use Rattle.sharc_suggest_laws.proofs.{Imports.{◌≡◌, ℕ, ◌+◌, ◌<◌, ◌≤◌, ◌==◌, Bool, true, false, ◌&&◌, ◌⊎◌, inl, inr, List, [], ◌∷◌, ◌++◌, map, refl, ap, sym, subst, subst₂, if◌then◌else◌, eqb-true, arith, and_parts, Span, Token, Declaration, expressions, in_arguments, Follow, point, argument_spans, declaration_spans, PlacedDeclaration, PlacedDeclarations, Placed, AllPlaced, span_of, Expression, identifier, constant, parentheses, call, spawn, on_value, on_place, cast, index, field, unary, binary, Arguments, no_arguments, argument, Role, Recast, type_at, is_there, around, with_cast, all_with_cast, count_of, met_by, met_inside, met_inside_all, met_at, Entity, declared, casts, cast_entity}, Follows.{split, named_in}}
 use Rattle.sharc_tree.specs.Placed.{IsWhole}
 use Rattle.sharc_tree.specs.Tree as tree
 
@@ -18,28 +18,19 @@ Grown c n from until old (e ∷ new) = ((rest : List Entity) × (old ≡ e ∷ r
 
 wider : (c : Recast) (n from until low high : ℕ) (old new : List Entity) → low ≤ from → until ≤ high → Grown c n from until old new → Grown c n low high old new
 wider c n from until low high old [] le ge grown = grown
-wider c n from until low high old (e ∷ new) le ge (inl w) =
-    let begins : from ≤ e.token = w.2 in
-    let ends : e.token < until = w.3 in
-    inl (w.0, w.1, omega (arith, le, begins), omega (arith, ge, ends), wider c n (e.token + 1) until (e.token + 1) high w.0 new (omega arith) ge w.4)
-wider c n from until low high old (e ∷ new) le ge (inr w) =
-    let begins : from ≤ c.from = w.3 in
-    let ends : c.from < until = w.4 in
-    inr (w.0, w.1, w.2, omega (arith, le, begins), omega (arith, ge, ends), wider c w.0 c.from until c.from high old new (omega arith) ge w.5)
+wider c n from until low high old (e ∷ new) le ge (inl (rest, is, begins, ends, more)) =
+    inl (rest, is, omega (arith, le, begins), omega (arith, ge, ends), wider c n (e.token + 1) until (e.token + 1) high rest new (omega arith) ge more)
+wider c n from until low high old (e ∷ new) le ge (inr (k, is, added, begins, ends, more)) =
+    inr (k, is, added, omega (arith, le, begins), omega (arith, ge, ends), wider c k c.from until c.from high old new (omega arith) ge more)
 
 both : (c : Recast) (n k from mid until : ℕ) (old new old' new' : List Entity) → from ≤ mid → mid ≤ until → Grown c n from mid old new → Grown c k mid until old' new' → Grown c (n + k) from until (old ++ old') (new ++ new')
-both c n k from mid until old [] old' new' le ge none after =
-    let zero_more : n ≡ 0 = none.1 in
-    let many : k ≡ n + k = omega (arith, zero_more) in
-    subst₂ (λ (i : ℕ) (l : List Entity). Grown c i from until (l ++ old') new') many (sym none.0) (wider c k mid until from until old' new' le (omega arith) after)
-both c n k from mid until old (e ∷ new) old' new' le ge (inl w) after =
-    let begins : from ≤ e.token = w.2 in
-    let ends : e.token < mid = w.3 in
-    inl (w.0 ++ old', ap (λ (l : List Entity). l ++ old') w.1, begins, omega (arith, ge, ends), both c n k (e.token + 1) mid until w.0 new old' new' (omega (arith, ends)) ge w.4 after)
-both c n k from mid until old (e ∷ new) old' new' le ge (inr w) after =
-    let one : n ≡ w.0 + 1 = w.1 in
-    let ends : c.from < mid = w.4 in
-    inr (w.0 + k, omega (arith, one), w.2, w.3, omega (arith, ge, ends), both c w.0 k c.from mid until old new old' new' (omega (arith, ends)) ge w.5 after)
+both c n k from mid until old [] old' new' le ge (gone, no_more) after =
+    let many : k ≡ n + k = omega (arith, no_more) in
+    subst₂ (λ (i : ℕ) (l : List Entity). Grown c i from until (l ++ old') new') many (sym gone) (wider c k mid until from until old' new' le (omega arith) after)
+both c n k from mid until old (e ∷ new) old' new' le ge (inl (rest, is, begins, ends, more)) after =
+    inl (rest ++ old', ap (λ (l : List Entity). l ++ old') is, begins, omega (arith, ge, ends), both c n k (e.token + 1) mid until rest new old' new' (omega (arith, ends)) ge more after)
+both c n k from mid until old (e ∷ new) old' new' le ge (inr (j, one, added, begins, ends, more)) after =
+    inr (j + k, omega (arith, one), added, begins, omega (arith, ge, ends), both c j k c.from mid until old new old' new' (omega (arith, ends)) ge more after)
 
 -- ---- in spans that follow one another
 
@@ -52,29 +43,22 @@ joined all c xs ys n k old new old' new' left right from until le follow =
     both c n k from w.0 until old new old' new' w.1 w.2 (left from w.0 w.1 w.3) (right w.0 until w.2 w.4)
 
 pub whole : (all : List Token) (c : Recast) (s : Span) (parts : List Span) (n : ℕ) (old new : List Entity) → IsWhole all s parts → Grows all c parts n old new → Grows all c (s ∷ []) n old new
-whole all c s parts n old new placed inner from until le follow =
-    let order : s.first.token ≤ s.last.token = placed.0.order in
-    let begins : from ≤ s.first.token = follow.1 in
-    let ends : s.last.token < until = follow.2 in
-    wider c n s.first.token (s.last.token + 1) from until old new begins (omega (arith, ends)) (inner s.first.token (s.last.token + 1) (omega (arith, order)) placed.1)
+whole all c s parts n old new (span, follows) inner from until le (_, begins, ends, _) =
+    wider c n s.first.token (s.last.token + 1) from until old new begins (omega (arith, ends)) (inner s.first.token (s.last.token + 1) (omega (arith, span.order)) follows)
 
 pub none : (all : List Token) (c : Recast) (spans : List Span) → Grows all c spans 0 [] []
 none all c spans from until le follow = (refl, refl)
 
 -- after a span that has none
 pub behind_span : (all : List Token) (c : Recast) (s : Span) (ys : List Span) (n : ℕ) (old new : List Entity) → Grows all c ys n old new → Grows all c (s ∷ ys) n old new
-behind_span all c s ys n old new inner from until le follow =
-    let order : s.first.token ≤ s.last.token = follow.0.order in
-    let begins : from ≤ s.first.token = follow.1 in
-    let ends : s.last.token < until = follow.2 in
-    wider c n (s.last.token + 1) until from until old new (omega (arith, order, begins)) (omega arith) (inner (s.last.token + 1) until (omega (arith, ends)) follow.3)
+behind_span all c s ys n old new inner from until le (span, begins, ends, follow) =
+    wider c n (s.last.token + 1) until from until old new (omega (arith, span.order, begins)) (omega arith) (inner (s.last.token + 1) until (omega (arith, ends)) follow)
 
 -- before spans that have none
 pub before_spans : (all : List Token) (c : Recast) (xs ys : List Span) (n : ℕ) (old new : List Entity) → Grows all c xs n old new → Grows all c (xs ++ ys) n old new
 before_spans all c xs ys n old new inner from until le follow =
     let w = split all from until xs ys le follow in
-    let low : from ≤ from = omega arith in
-    wider c n from w.0 from until old new low w.2 (inner from w.0 w.1 w.3)
+    wider c n from w.0 from until old new (omega arith) w.2 (inner from w.0 w.1 w.3)
 
 pub again : (all : List Token) (c : Recast) (spans : List Span) (n k : ℕ) (old new : List Entity) → n ≡ k → Grows all c spans n old new → Grows all c spans k old new
 again all c spans n k old new same inner from until le follow = subst (λ (i : ℕ). Grown c i from until old new) same (inner from until le follow)
@@ -83,18 +67,10 @@ again all c spans n k old new same inner from until le follow = subst (λ (i : �
 
 -- what begins in a span
 pub one_in : (all : List Token) (c : Recast) (s : Span) (e : Entity) → s.first.token ≤ e.token → e.token ≤ s.last.token → Grows all c (s ∷ []) 0 (e ∷ []) (e ∷ [])
-one_in all c s e low high from until le follow =
-    let begins : from ≤ s.first.token = follow.1 in
-    let ends : s.last.token < until = follow.2 in
-    inl ([], refl, omega (arith, begins, low), omega (arith, ends, high), (refl, refl))
+one_in all c s e low high from until le (_, begins, ends, _) = inl ([], refl, omega (arith, begins, low), omega (arith, ends, high), (refl, refl))
 
 pub one_declared : (all : List Token) (c : Recast) (what : Role) (d : Declaration) → PlacedDeclaration all d → Grows all c (d.span ∷ []) 0 (declared what d ∷ []) (declared what d ∷ [])
-one_declared all c what d placed =
-    let order : d.written.span.first.token ≤ d.written.span.last.token = placed.0.1.0.order in
-    let typed : d.span.first.token ≤ d.written.span.first.token = placed.0.1.1 in
-    let named : d.written.span.last.token + 1 ≤ d.name.site.token = placed.0.1.3.1 in
-    let within : d.name.site.token < d.span.last.token + 1 = placed.0.1.3.2 in
-    one_in all c d.span (declared what d) (omega (arith, order, typed, named)) (omega (arith, within))
+one_declared all c what d placed = let here = named_in all d placed in one_in all c d.span (declared what d) here.0 (omega (arith, here.1))
 
 pub all_declared : (all : List Token) (c : Recast) (what : Role) (ds : List Declaration) → PlacedDeclarations all ds → Grows all c (declaration_spans ds) 0 (map (declared what) ds) (map (declared what) ds)
 all_declared all c what [] placed = none all c []
@@ -148,29 +124,20 @@ around_with c n from until old a e same low high grown =
 -- a value, by what is in it
 value_grows : (all : List Token) (c : Recast) (e : Expression) → GrowCasts all c (span_of e ∷ []) (met_inside (is_there c) e) (expressions e) (expressions (with_cast c e))
     → GrowCasts all c (span_of e ∷ []) (met_at (is_there c) e) (expressions e) (expressions (around c (with_cast c e)))
-value_grows all c e inner from until le follow =
-    let order : (span_of e).first.token ≤ (span_of e).last.token = follow.0.order in
-    let ends : (span_of e).last.token < until = follow.2 in
-    let below : (span_of e).first.token < until = omega (arith, order, ends) in
-    around_with c (met_inside (is_there c) e) from until (casts (expressions e)) e (with_cast c e) (span_same c e) follow.1 below
-    (inner (span_of e).first.token until (omega (arith, below)) (follow.0, omega arith, follow.2, tt))
+value_grows all c e inner from until le (span, begins, ends, _) =
+    let below : (span_of e).first.token < until = omega (arith, span.order, ends) in
+    around_with c (met_inside (is_there c) e) from until (casts (expressions e)) e (with_cast c e) (span_same c e) begins below
+    (inner (span_of e).first.token until (omega (arith, below)) (span, omega arith, ends, tt))
 
 -- a cast that was there begins before its source
 cast_grows : (all : List Token) (c : Recast) (s t a : Span) (n : ℕ) (e : Entity) (old new : List Entity) → e.token ≡ s.first.token → IsWhole all s (t ∷ (a ∷ [])) → Grows all c (a ∷ []) n old new → Grows all c (s ∷ []) n (e ∷ old) (e ∷ new)
-cast_grows all c s t a n e old new at placed inner from until le follow =
-    let order : s.first.token ≤ s.last.token = placed.0.order in
-    let type_order : t.first.token ≤ t.last.token = placed.1.0.order in
-    let typed : s.first.token ≤ t.first.token = placed.1.1 in
-    let source : t.last.token + 1 ≤ a.first.token = placed.1.3.1 in
-    let within : a.last.token < s.last.token + 1 = placed.1.3.2 in
-    let begins : from ≤ s.first.token = follow.1 in
-    let ends : s.last.token < until = follow.2 in
+cast_grows all c s t a n e old new at (whole_span, (of_type, typed, _, (source_span, source, within, _))) inner from until le (_, begins, ends, _) =
     inl (
       old,
       refl,
       omega (arith, begins, at),
-      omega (arith, order, ends, at),
-      inner (e.token + 1) until (omega (arith, order, ends, at)) (placed.1.3.0, omega (arith, at, typed, type_order, source), omega (arith, within, ends), tt),
+      omega (arith, whole_span.order, ends, at),
+      inner (e.token + 1) until (omega (arith, whole_span.order, ends, at)) (source_span, omega (arith, at, typed, of_type.order, source), omega (arith, within, ends), tt),
     )
 
 mutual

@@ -1,6 +1,6 @@
 -- Lock paths that lead to something: what a written path is as it is read, and that nothing is wrong with it where its
 -- first name is found.
-use Rattle.sharc_suggest_laws.proofs.{Imports.{◌≡◌, ℕ, ◌+◌, Bool, true, false, cond, List, [], ◌∷◌, map, Option, Some, None, refl, ap, sym, subst, ◌∙◌, and_parts, codes, AllByRecursion, Base, Path, One, Through, Declaration, StructDefinition, Arguments, Function, FaultCode, BadForm, Named, Scope, Kind, object, Entry, Meaning, StructTable, look_up, named_of, kind_of, is_main, Note, yields, fault_where, name_kind, main_notes, name_notes, field_among, second_in, second_notes, path_notes, mode_notes, modes_notes, Resolution, structs_in, named_at, function_at, named_kind, variable_kind, global_kind_of, with_names, struct_named, IsMemberOf, FirstNames, a_known_call, IsNamedPath, argument_use, lock_through, with_base, path_variable, lock_for, Lock, Sharing, locked, lock_of, text_at, path_with, path_of, mode_of, is_sibling_lock, variable_named, keeps_first, keeps, keeps_all, no_token, one_some as one_token, true_no}, Filed.{IsMeant, IsFiled}, Noted.{Clean, none, joined, referring}}
+use Rattle.sharc_suggest_laws.proofs.{Imports.{◌≡◌, ℕ, ◌+◌, Bool, true, false, cond, List, [], ◌∷◌, map, Option, Some, None, refl, ap, sym, subst, ◌∙◌, and_parts, codes, AllByRecursion, Base, Path, One, Through, Declaration, StructDefinition, Arguments, Function, FaultCode, BadForm, Named, Scope, Kind, object, Entry, Meaning, StructTable, look_up, named_of, kind_of, is_main, Note, yields, fault_where, name_kind, main_notes, name_notes, field_among, second_in, second_notes, path_notes, mode_notes, modes_notes, Resolution, structs_in, named_at, function_at, named_kind, variable_kind, global_kind_of, with_names, struct_named, IsMemberOf, FirstNames, a_known_call, IsNamedPath, argument_use, lock_through, with_base, path_variable, lock_for, Lock, Sharing, locked, lock_of, text_at, path_with, path_of, mode_of, is_sibling_lock, variable_named, keeps_first, keeps, keeps_all, no_token, one_some, true_no}, Filed.{IsMeant, IsFiled}, Noted.{Clean, none, joined, referring}}
 use Rattle.sharc_ctype_laws.specs.WrittenTypes.{a_field, a_variable, a_global, a_function}
 
 -- ---- no fault among notes
@@ -43,32 +43,15 @@ first_kind_is r token text _ (a_global at is same) = ap (named_kind r) at ∙ ap
 first_kind_is r token text _ (a_function at is same other) = ap (named_kind r) at
 first_kind_is r token text _ (a_known_call c at is) = ap (named_kind r) at
 
-field_no_function : (t n : ℕ) → Named.Field t ≡ Named.Function n → ⊥
-field_no_function t n h = cc
-
-pub variable_no_function : (t n : ℕ) → Named.Variable t ≡ Named.Function n → ⊥
-variable_no_function t n h = cc
-
-global_no_function : (t n : ℕ) → Named.Global t ≡ Named.Function n → ⊥
-global_no_function t n h = cc
-
-known_no_function : (n : ℕ) → Named.Known ≡ Named.Function n → ⊥
-known_no_function n h = cc
-
-same_function : (k n : ℕ) → Named.Function k ≡ Named.Function n → k ≡ n
-same_function k n h = cc
-
-one_function : (f g : Function) → Some f ≡ Some g → f ≡ g
-one_function f g h = cc
-
 first_no_main : (r : Resolution) (token : ℕ) (text : List ℕ) (k : Kind) → FirstNames r token text k → IsNoMain r (named_at r token)
-first_no_main r token text _ (a_field {t = t} at is same) = λ n f so there main. field_no_function t n (sym at ∙ so)
-first_no_main r token text _ (a_variable {t = t} at is same) = λ n f so there main. variable_no_function t n (sym at ∙ so)
-first_no_main r token text _ (a_global {n = t} at is same) = λ n f so there main. global_no_function t n (sym at ∙ so)
+first_no_main r token text _ (a_field {t = t} at is same) = λ n f so there main. cc (sym at ∙ so)
+first_no_main r token text _ (a_variable {t = t} at is same) = λ n f so there main. cc (sym at ∙ so)
+first_no_main r token text _ (a_global {n = t} at is same) = λ n f so there main. cc (sym at ∙ so)
 first_no_main r token text _ (a_function {n = k} {f = g} at is same other) = λ n f so there main.
-    let one : g ≡ f = one_function g f (sym is ∙ ap (function_at r) (same_function k n (sym at ∙ so)) ∙ there) in
+    let number : k ≡ n = cc (sym at ∙ so) in
+    let one : g ≡ f = one_some g f (sym is ∙ ap (function_at r) number ∙ there) in
     other (sym same ∙ ap (λ (x : Function). x.name.text) one ∙ main)
-first_no_main r token text _ (a_known_call c at is) = λ n f so there main. known_no_function n (sym at ∙ so)
+first_no_main r token text _ (a_known_call c at is) = λ n f so there main. cc (sym at ∙ so)
 
 pub written_sound : (r : Resolution) (path : Path) → IsNamedPath r path → IsSoundLock r (lock_of path)
 written_sound r (One m token) names = record { first = first_no_main r token m names.0 names.1; second = tt }
@@ -84,7 +67,7 @@ abbrev pub IsVariableAt : Resolution → ℕ → Type 0
 IsVariableAt r at = (v : ℕ) × (named_at r at ≡ Named.Variable v)
 
 variable_no_main : (r : Resolution) (at : ℕ) → IsVariableAt r at → IsNoMain r (named_at r at)
-variable_no_main r at is = λ n f so there main. variable_no_function is.0 n (sym is.1 ∙ so)
+variable_no_main r at is = λ n f so there main. cc (sym is.1 ∙ so)
 
 pub through_sound : (r : Resolution) (at : ℕ) (path : Path) → IsNamedPath r path → IsVariableAt r at → (is_sibling_lock r (lock_of path) ≡ true → Leads r (named_at r at) (text_at r (lock_of path).first)) → IsSoundLock r (lock_through r at (lock_of path))
 through_sound r at path names variable leads = by (is_sibling_lock r (lock_of path)) leads
@@ -100,7 +83,7 @@ abbrev pub ArgumentsFit : Resolution → List Declaration → Arguments → Type
 ArgumentsFit r ds all = (t y : ℕ) → argument_use r ds all t ≡ Some y → (b : Base) (n : ℕ) → named_kind r (Named.Variable t) ≡ object b (n + 1) → IsVariableAt r y × (named_kind r (named_at r y) ≡ object b (n + 1))
 
 variable_is : (v : Named) (t : ℕ) → variable_named v ≡ Some t → v ≡ Named.Variable t
-variable_is (Named.Variable x) t is = ap Named.Variable (one_token x t is)
+variable_is (Named.Variable x) t is = ap Named.Variable (one_some x t is)
 variable_is _ t is = absurd (no_token t is)
 
 pub call_sound : (r : Resolution) (ds : List Declaration) (all : Arguments) (path : Path) → IsNamedPath r path → ArgumentsFit r ds all → IsSoundLock r (lock_for r ds all (path_variable r (lock_of path)) (lock_of path))

@@ -99,10 +99,9 @@ in_assigned r now f σ scope s u (value e) placed typed strong =
     let heads = front (IsStrong r now) (notes_at AsLvalue σ u ++ place_notes σ.names u ++ unmet Value u (place_kind σ.names u (type_of σ u))) (right_notes σ (met Value (place_kind σ.names u (type_of σ u))) (value e)) strong in
     let begin = front (IsStrong r now) (notes_at AsLvalue σ u ++ place_notes σ.names u) (unmet Value u (place_kind σ.names u (type_of σ u))) heads in
     let all : AllByRecursion (IsTypedIn r σ) (expressions u) = front (IsTypedIn r σ) (expressions u) (expressions e) (unplaced r σ (expressions u ++ expressions e) typed) in
-    let next : (span_of u).last.token + 1 ≤ (span_of e).first.token = placed.0.1.3.1 in
     in_value r now f scope (of_left u) e (record {
       scope = σ;
-      before = omega (arith, next);
+      before = omega (arith, placed.0.1.3.1);
       placed = placed.1;
       typed = all;
       strong = front (IsStrong r now) (notes_at AsLvalue σ u) (place_notes σ.names u) begin;
@@ -131,8 +130,7 @@ in_local r now f scope l placed = by l.initial placed.0.1
     by None follow = tt
     by (Some (malloc s n w)) follow = plain_option r now f inner n
     by (Some (value e)) follow =
-        let next : l.declaration.span.last.token + 1 ≤ (span_of e).first.token = follow.3.1 in
-        in_value r now f inner (of_declared token) e (inr (omega (arith, within, next)))
+        in_value r now f inner (of_declared token) e (inr (omega (arith, within, follow.3.1)))
 
 in_first : (r now : Resolution) (f : ℕ) (around : Around) (σ : Scope) (scope : List Entry) (x : First) → PlacedFirst r.program.tokens.list x → AreTyped r (places_in_first around σ x) → AreStrong r now (first_notes around σ x) → AreReceived r now f (first_givings scope x)
 in_first r now f around σ scope nothing placed typed strong = tt

@@ -1,5 +1,5 @@
 -- What is said of the type of a cast that is suggested does no harm: its names name there what they name where they are written.
-use Rattle.sharc_suggest_laws.proofs.{Imports.{◌≡◌, inl, inr, ℕ, ◌+◌, Bool, true, false, List, [], ◌∷◌, ◌++◌, map, Option, Some, None, refl, ap, sym, subst, ◌∙◌, eqb-true, false≢true, and_parts, Base, Mode, Declaration, WrittenType, TypeNotAllowed, Named, Scope, Entry, StructMeaning, StructTable, struct_of, look_up, named_of, named_struct, fault_unless, name_notes, main_notes, second_in, second_notes, path_notes, mode_notes, modes_notes, struct_note, base_notes, allowed_there, type_notes, first_kind, Role, Resolution, named_at, with_names, Sharing, locked, is_field, same_named, mode_of, path_with, text_at, is_call_at, keeps_named, keeps, keeps_all, is_dull}, Words.calls_apart, Noted.{Clean, left, right, no_fault, Noted, done, added, both, more_faults, new_fault, quiet, main_faults, unless_faults}, Scoped.{IsFoundAs, Scoped}}
+use Rattle.sharc_suggest_laws.proofs.{Imports.{◌≡◌, inl, inr, ℕ, ◌+◌, Bool, true, false, List, [], ◌∷◌, ◌++◌, map, Option, Some, None, refl, ap, sym, subst, ◌∙◌, eqb-true, false≢true, and_parts, Base, Mode, Declaration, WrittenType, TypeNotAllowed, Named, Scope, Entry, StructMeaning, StructTable, struct_of, look_up, named_of, named_struct, fault_unless, name_notes, main_notes, second_in, second_notes, path_notes, mode_notes, modes_notes, struct_note, base_notes, allowed_there, type_notes, first_kind, Role, Resolution, named_at, with_names, Sharing, locked, is_field, same_named, mode_of, path_with, text_at, is_call_at, keeps_named, keeps, keeps_all, is_dull, one_some}, Words.calls_apart, Noted.{Clean, left, right, no_fault, Noted, done, added, both, more_faults, new_fault, quiet, main_faults, unless_faults}, Scoped.{IsFoundAs, Scoped}}
 use Rattle.sharc_names.specs.Names as meaning
 
 -- a global or a function
@@ -29,9 +29,6 @@ named_there r file names token spelled (Named.Global n) is None kept found e at 
 named_there r file names token spelled (Named.Function n) is None kept found e at = sym (spelled.filed token (ap is_filed is) e (sym found ∙ at))
 named_there r file names token spelled (Named.Variable x) is (Some c) kept found e at =
     is ∙ variable_is x (named_of c.meaning) kept ∙ ap named_of (sym found.2) ∙ ap (λ (z : Entry). named_of z.meaning) (one_some found.0 e (sym found.1 ∙ at))
-  where
-    one_some : (a b : Entry) → Some a ≡ Some b → a ≡ b
-    one_some a b h = cc
 named_there r file names token spelled (Named.Field f) is None kept found e at = absurd (false≢true kept)
 named_there r file names token spelled Named.Known is None kept found e at = is ∙ sym (spelled.called token is kept e (sym found ∙ at))
 named_there r file names token spelled _ is _ kept found e at = absurd (false≢true kept)

@@ -42,10 +42,8 @@ sound_of m locks row of =
     let e : Entity = of.holder.entity in
     mapped_each (IsSoundSharing r) (λ (mode : Mode). read r row.reading (sharing_of mode)) (take row.count (drop row.first m.modes))
     (each_mode (λ (mode : Mode). IsSoundSharing r (read r row.reading (sharing_of mode))) row.count (drop row.first m.modes) (λ k low.
-    let first : row.first ≡ of.holder.first + of.skipped = of.first in
-    let within : of.skipped + row.count ≤ positions_of e = of.within in
-    let there : of.skipped + k < positions_of e = omega (arith, low, within) in
-    let place : of.holder.first + (of.skipped + k) ≡ row.first + k = omega (arith, first) in
+    let there : of.skipped + k < positions_of e = omega (arith, low, of.within) in
+    let place : of.holder.first + (of.skipped + k) ≡ row.first + k = omega (arith, of.first) in
     let here : IsWrittenLock e.written.ctype.levels (get_or m.modes (row.first + k) Private) =
     subst (λ (n : ℕ). IsWrittenLock e.written.ctype.levels (get_or m.modes n Private)) place (locks of.holder of.stands (of.skipped + k) there) in
     mode_read r e of.names row.reading of.reading (get_or (drop row.first m.modes) k Private)
@@ -70,13 +68,10 @@ in_positions k (e ∷ rest) n has =
 
 many_of : (m : Assignment) → IsWhole m → (row : Targets) → IsOf m.typed row → length (modes_of m row) ≡ row.count
 many_of m whole row of =
-    let first : row.first ≡ of.holder.first + of.skipped = of.first in
-    let within : of.skipped + row.count ≤ positions_of of.holder.entity = of.within in
     let inside : of.holder.first + positions_of of.holder.entity ≤ 0 + positions_in (entities_in m.typed.program.items) = in_positions 0 (entities_in m.typed.program.items) of.holder of.stands in
-    let size : length m.modes ≡ positions_in (entities_in m.typed.program.items) = whole.modes in
     let rest : length (drop row.first m.modes) ≡ length m.modes - row.first = length-drop row.first m.modes in
     map_length (λ (mode : Mode). read m.typed row.reading (sharing_of mode)) (take row.count (drop row.first m.modes))
-    ∙ length-take-le row.count (drop row.first m.modes) (omega (arith, first, within, inside, size, rest))
+    ∙ length-take-le row.count (drop row.first m.modes) (omega (arith, of.first, of.within, inside, whole.modes, rest))
 
 pub record HasModes (m : Assignment) (n : ℕ) (modes : List Sharing) : Type 0 where
   pub many : length modes ≡ n

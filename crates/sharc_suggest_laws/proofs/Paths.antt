@@ -1,5 +1,5 @@
 -- Where a cast is suggested its type has as many stars as the expression, and its lock paths name what is there.
-use Rattle.sharc_suggest_laws.proofs.{Imports.{◌≡◌, ℕ, zero, suc, ◌+◌, ◌&&◌, not, Bool, true, false, List, [], ◌∷◌, ◌++◌, cond, length, map, bytes_eq, Option, Some, None, option_map, refl, ap, sym, subst, ◌∙◌, arith, false≢true, and_parts, AllByRecursion, Base, Mode, Declaration, Dot, Arrow, Dereference, GlobalForm, Array, without_parentheses, is_lvalue, IsLow, expressions, IsPlaced, Expression, identifier, parentheses, cast, index, field, unary, Scope, Kind, object, is_null, Entry, look_up, global_kind, modes_notes, file_scope, notes_about, Resolution, IsResolved, functions_in, variable_kind, kind_at, with_names, HasType, a_variable, a_global, a_function, in_parentheses, element_of_pointer, element_of_array, a_field, a_field_behind, pointed_to, HasWrittenLocks, Cast, cell_at, Assignment, IsWhole, taken_variable, Targets, modes_of, row_at, Sharing, is_readonly, mode_of, Giving, items_givings, differ_first, keeps_first, keeps_all, may_be_cast, back}, Expects.{Agreed, same, integers, agreed, IsExpected, expected_of, same_modes}, Filed.{IsMeant, AreMeant, file_meant, file_structs, no_entry as none_some}, FoundThere.{HasNames, has_names, found_there}, Given.{AreKnown, AreOwn, IsWell, givings_well, IsWellFunction}, Leads.{IsFoundIn, modes_clean}, Mild.IsSpelled, ModesKept.modes_of_row, Noted.{Clean, clean_from}, ReadySite.{PathsRead, IsPointed}, Site.IsFor, SpelledAll.spelled, Targets.{IsRowOf, IsKnownProgram, targets_of}, World.{TypedLaws, known_program, known_functions}}
+use Rattle.sharc_suggest_laws.proofs.{Imports.{◌≡◌, ℕ, zero, suc, ◌+◌, ◌&&◌, not, Bool, true, false, List, [], ◌∷◌, ◌++◌, cond, length, map, bytes_eq, Option, Some, None, option_map, refl, ap, sym, subst, ◌∙◌, arith, false≢true, and_parts, AllByRecursion, Base, Mode, Declaration, Dot, Arrow, Dereference, GlobalForm, Array, without_parentheses, is_lvalue, IsLow, expressions, IsPlaced, Expression, identifier, parentheses, cast, index, field, unary, Scope, Kind, object, is_null, Entry, look_up, global_kind, modes_notes, file_scope, notes_about, Resolution, IsResolved, functions_in, variable_kind, kind_at, with_names, HasType, a_variable, a_global, a_function, in_parentheses, element_of_pointer, element_of_array, a_field, a_field_behind, pointed_to, HasWrittenLocks, Cast, cell_at, Assignment, IsWhole, taken_variable, Targets, modes_of, row_at, Sharing, is_readonly, mode_of, Giving, items_givings, differ_first, keeps_first, keeps_all, may_be_cast, back, none_some, one_some}, Expects.{Agreed, same, integers, agreed, IsExpected, expected_of}, Filed.{IsMeant, AreMeant, file_meant, file_structs}, FoundThere.{HasNames, has_names, found_there}, Given.{AreKnown, AreOwn, IsWell, givings_well, IsWellFunction}, Leads.{IsFoundIn, modes_clean}, Mild.IsSpelled, ModesKept.modes_of_row, Noted.{Clean, clean_from}, ReadySite.{PathsRead, IsPointed}, Site.IsFor, SpelledAll.spelled, Targets.{IsRowOf, IsKnownProgram, targets_of}, World.{TypedLaws, known_program, known_functions}}
 use Rattle.sharc_suggest.specs.Repairs.{is_free}
 
 -- ---- what may be cast is no NULL
@@ -47,7 +47,7 @@ never_differ r a b none also is = false≢true (ap (λ (l : List Sharing). diffe
 
 found_many : (m : Assignment) → IsWhole m → HasWrittenLocks m → (b : Base) (n : ℕ) (o : Option Targets) → IsRowOf m.typed (object b n) o → (found : List Sharing) → option_map (modes_of m) o ≡ Some found → length found ≡ n
 found_many m whole locks b n None is found has = absurd is
-found_many m whole locks b n (Some row) is found has = ap length (sym (same_modes (modes_of m row) found has)) ∙ (modes_of_row m whole locks n row is).many
+found_many m whole locks b n (Some row) is found has = ap length (sym (one_some (modes_of m row) found has)) ∙ (modes_of_row m whole locks n row is).many
 
 stars_by : (m : Assignment) (e : Expression) (modes found : List Sharing) (b : Base) (n : ℕ) → differ_first m.typed modes found ≡ true → length modes ≡ n → ((c : Base) (k : ℕ) → kind_at m.typed e ≡ object c k → length found ≡ k) → Agreed b n (kind_at m.typed e)
     → IsPointed m e modes
@@ -70,9 +70,6 @@ own_meant : (r : Resolution) (scope : List Entry) → AreOwn r scope → AreMean
 own_meant r [] own text e found = absurd (none_some e found)
 own_meant r (x ∷ rest) own text e found = by (bytes_eq x.name text) found (own_meant r rest own.1 text e)
   where
-    one_some : (a b : Entry) → Some a ≡ Some b → a ≡ b
-    one_some a b h = cc
-
     here : IsMeant r x.meaning
     here =
         let d : Declaration = own.0.0 in

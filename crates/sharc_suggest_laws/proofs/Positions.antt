@@ -1,13 +1,7 @@
 -- Positions under their new numbers.
-use Rattle.sharc_suggest_laws.proofs.{Imports.{◌≡◌, ℕ, ◌+◌, ◌≤◌, ◌==◌, Bool, true, false, ◌&&◌, cond, inl, inr, List, [], ◌∷◌, Option, Some, None, length, replicate, get_or, refl, ap, sym, ◌∙◌, true≢false, eq-eqb, arith, get_or-map, and_from, length-replicate, find, Private, IsPlaced, Recast, is_there, recast_of, program_with, resolution_with, targets, inserted, moved, first_of, first_new, renumbered, PositionsStay, met_in_items, Entity, Numbered, entities_in, entity_at, positions_of, positions_in, numbered_from, is_told_by, Cast, Reason, Assignment, sharing_of}, Grown.{IsCastOf, Grown}, Spread.grown_items, Inserted.{among, renumbered_kept}}
+use Rattle.sharc_suggest_laws.proofs.{Imports.{◌≡◌, ℕ, ◌+◌, ◌≤◌, ◌==◌, Bool, true, false, ◌&&◌, cond, inl, inr, List, [], ◌∷◌, Option, Some, None, length, replicate, get_or, refl, ap, sym, ◌∙◌, true≢false, eq-eqb, arith, get_or-map, and_from, length-replicate, find, Private, IsPlaced, Recast, is_there, recast_of, program_with, resolution_with, targets, inserted, moved, first_of, first_new, renumbered, PositionsStay, met_in_items, Entity, Numbered, entities_in, entity_at, positions_of, positions_in, numbered_from, is_told_by, Cast, Reason, Assignment, sharing_of, none_some, one_some}, Grown.{IsCastOf, Grown}, Spread.grown_items, Inserted.{among, renumbered_kept}}
 
 -- ---- the first that is determined by the cast's tokens has a number that is not past the old ones
-
-pub some_here : (here x : Numbered) → Some here ≡ Some x → here ≡ x
-some_here here x is = cc
-
-pub no_more : (x : Numbered) → None ≡ Some x → ⊥
-no_more x is = cc
 
 pub cast_is_told : (c : Recast) (k : ℕ) (e : Entity) → IsCastOf c e → is_told_by c.from c.until (record { entity = e; first = k }) ≡ true
 cast_is_told c k e w =
@@ -16,12 +10,12 @@ cast_is_told c k e w =
 
 within_by : (room : ℕ) (here x : Numbered) (b : Bool) (found : Option Numbered) → here.first ≤ room → cond b (Some here) found ≡ Some x → (b ≡ false → found ≡ Some x → x.first ≤ room) → x.first ≤ room
 within_by room here x true found low is more =
-    let same : here.first ≡ x.first = ap (λ (n : Numbered). n.first) (some_here here x is) in
+    let same : here.first ≡ x.first = ap (λ (n : Numbered). n.first) (one_some here x is) in
     omega (arith, same, low)
 within_by room here x false found low is more = more refl is
 
 first_within : (c : Recast) (n from until k : ℕ) (old new : List Entity) (x : Numbered) → Grown c n from until old new → find (is_told_by c.from c.until) (numbered_from k new) ≡ Some x → x.first ≤ k + positions_in old
-first_within c n from until k old [] x grown is = absurd (no_more x is)
+first_within c n from until k old [] x grown is = absurd (none_some x is)
 first_within c n from until k old (e ∷ new) x (inl w) is =
     let here : Numbered = record { entity = e; first = k } in
     let begins : k ≤ k + positions_in old = omega arith in
@@ -53,10 +47,8 @@ positions_stay m c whole placed =
     let first : ℕ = first_new c m.typed in
     let count : ℕ = length (targets c.to.levels) in
     let low : first ≤ 0 + positions_in (entities_in m.typed.program.items) = new_within m c placed in
-    let many_modes : length m.modes ≡ positions_in (entities_in m.typed.program.items) = whole.modes in
-    let many_reasons : length m.reasons ≡ positions_in (entities_in m.typed.program.items) = whole.reasons in
-    let in_modes : first ≤ length m.modes = omega (arith, low, many_modes) in
-    let in_reasons : first ≤ length m.reasons = omega (arith, low, many_reasons) in
+    let in_modes : first ≤ length m.modes = omega (arith, low, whole.modes) in
+    let in_reasons : first ≤ length m.reasons = omega (arith, low, whole.reasons) in
     let none : List (Option Reason) = replicate count None in
     let counted : length none ≡ count = length-replicate count None in
     record {

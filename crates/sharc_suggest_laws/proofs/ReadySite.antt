@@ -1,5 +1,5 @@
 -- Where a suggested cast is written its type has no fault, and the expression is a place with a pointer of that type.
-use Rattle.sharc_suggest_laws.proofs.{Imports.{◌≡◌, is_some, ℕ, suc, ◌+◌, ◌-◌, Bool, true, false, not, ◌&&◌, ◌||◌, nat_lt, List, [], ◌∷◌, ◌++◌, length, map, Option, Some, None, refl, ap, ap₂, sym, subst, ◌∙◌, arith, false≢true, and_parts, AllByRecursion, Base, WrittenType, without_parentheses, is_lvalue, Expression, TypeNotAllowed, Scope, Kind, object, is_pointer, Entry, StructTable, StructMeaning, struct_of, named_struct, fault_unless, is_known, struct_note, base_notes, is_allowed, allowed_there, modes_notes, Role, type_at, recast_of, file_scope, notes_about, Resolution, kind_at, with_names, Cast, cell_at, Assignment, base_of, taken_variable, Sharing, mode_of, is_readonly, differ_first, may_be_cast, keeps_all, Giving, items_givings, back, map_length, is_below}, Noted.{Clean, none, joined, unless, referring}, Reread.setting_of, Scoped.Scoped, Site.IsFor, Sound.{IsBare, IsSound, stars_in, IsGivenSound, given_sound}, TypedWith.IsReady, Expects.{no_star_less as no_star}}
+use Rattle.sharc_suggest_laws.proofs.{Imports.{◌≡◌, is_some, ℕ, suc, ◌+◌, ◌-◌, Bool, true, false, not, ◌&&◌, ◌||◌, nat_lt, List, [], ◌∷◌, ◌++◌, length, map, Option, Some, None, refl, ap, ap₂, sym, subst, ◌∙◌, arith, false≢true, and_parts, AllByRecursion, Base, WrittenType, without_parentheses, is_lvalue, Expression, TypeNotAllowed, Scope, Kind, object, is_pointer, Entry, StructTable, StructMeaning, struct_of, named_struct, fault_unless, is_known, struct_note, base_notes, is_allowed, allowed_there, modes_notes, Role, type_at, recast_of, file_scope, notes_about, Resolution, kind_at, with_names, Cast, cell_at, Assignment, base_of, taken_variable, Sharing, mode_of, is_readonly, differ_first, may_be_cast, keeps_all, Giving, items_givings, back, map_length, is_below}, Noted.{Clean, none, joined, unless, referring}, Reread.setting_of, Scoped.Scoped, Site.IsFor, Sound.{IsBare, IsSound, stars_in, IsGivenSound, given_sound}, TypedWith.IsReady, Expects.no_star_less as no_star}
 use Rattle.sharc_suggest.specs.Repairs.{is_free}
 
 -- the lock paths of its type name what is there
@@ -61,8 +61,7 @@ site_ready m c named clean site paths pointed = λ there names scoped.
     let based : c.to.base ≡ b = ap (λ (x : Cast). x.to.base) (sym site.is) ∙ own in
     let levels : length c.to.levels ≡ suc (length (map (λ (s : Sharing). Some (mode_of r s)) site.expected)) = ap (λ (x : Cast). length x.to.levels) (sym site.is) in
     let many : length (map (λ (s : Sharing). Some (mode_of r s)) site.expected) ≡ length site.expected = map_length (λ (s : Sharing). Some (mode_of r s)) site.expected in
-    let all : length site.expected ≡ n + 1 = pointed.many in
-    let stars : length c.to.levels - 1 ≡ n + 1 = omega (arith, levels, many, all) in
+    let stars : length c.to.levels - 1 ≡ n + 1 = omega (arith, levels, many, pointed.many) in
     let known : is_known file.structs c.to.base ≡ true = ap (is_known file.structs) (based ∙ sym own) ∙ sound.known in
     let bare : IsBare b (n + 1) = subst (λ (k : Kind). IsBare (base_of k) (stars_in k)) pointed.kind sound.bare in
     let allowed : is_allowed Role.Cast c.to.base (length c.to.levels - 1) ≡ true = ap₂ (is_allowed Role.Cast) based stars ∙ pointer_allowed b n bare in

@@ -11,9 +11,6 @@ HasStruct (e ∷ rest) b = (names_struct e.written.ctype.base b ≡ true) ⊎ Ha
 abbrev pub HasBase : List Entity → Base → Type 0
 HasBase all b = (name : List ℕ) → b ≡ Base.Struct name → HasStruct all (Base.Struct name)
 
-own_base : (all : List Entity) (b : Base) → HasStruct all b → HasStruct all b
-own_base all b h = h
-
 named_itself : (b : Base) (name : List ℕ) → b ≡ Base.Struct name → names_struct b (Base.Struct name) ≡ true
 named_itself b name is = ap (λ (x : Base). names_struct x (Base.Struct name)) is ∙ (bytes_eq-Decides name name).1 refl
 
@@ -63,20 +60,22 @@ base_named r _ s have has = tt
 abbrev IsBased : Resolution → Kind → Type 0
 IsBased r k = HasBase (entities_in r.program.items) (base_of k)
 
-no_struct : (all : List Entity) (b : Base) → ((name : List ℕ) → b ≡ Base.Struct name → ⊥) → HasBase all b
-no_struct all b never name is = absurd (never name is)
+-- no struct is Void, Int or Long
+void_based : (r : Resolution) → HasBase (entities_in r.program.items) Base.Void
+void_based r name is = absurd (cc)
 
-not_int : (name : List ℕ) → Base.Int ≡ Base.Struct name → ⊥
-not_int name is = cc
+int_based : (r : Resolution) → HasBase (entities_in r.program.items) Base.Int
+int_based r name is = absurd (cc)
 
-not_long : (name : List ℕ) → Base.Long ≡ Base.Struct name → ⊥
-not_long name is = cc
+long_based : (r : Resolution) → HasBase (entities_in r.program.items) Base.Long
+long_based r name is = absurd (cc)
 
-not_void : (name : List ℕ) → Base.Void ≡ Base.Struct name → ⊥
-not_void name is = cc
+-- the base of the type is that of a type that something has
+abbrev HasItsBase : Resolution → WrittenType → Type 0
+HasItsBase r w = HasBase (entities_in r.program.items) w.ctype.base
 
-of_declaration : (r : Resolution) (ds : List Declaration) (token : ℕ) → AreDeclared (λ (w : WrittenType). HasBase (entities_in r.program.items) w.ctype.base) ds → IsBased r (variable_kind (declared_at ds token))
-of_declaration r [] token all = no_struct (entities_in r.program.items) Base.Void not_void
+of_declaration : (r : Resolution) (ds : List Declaration) (token : ℕ) → AreDeclared (HasItsBase r) ds → IsBased r (variable_kind (declared_at ds token))
+of_declaration r [] token all = void_based r
 of_declaration r (d ∷ rest) token all = by (d.name.site.token == token) (of_declaration r rest token all.1)
   where
     by : (b : Bool) → IsBased r (variable_kind (declared_at rest token)) → IsBased r (variable_kind (cond b (Some d) (declared_at rest token)))
@@ -88,71 +87,67 @@ global_base (Array at n) (array b stars) = refl
 global_base _ _ = refl
 
 of_global : (r : Resolution) (gs : List GlobalDefinition) (n : ℕ) → AllByRecursion (λ (g : GlobalDefinition). HasBase (entities_in r.program.items) g.declaration.written.ctype.base) gs → IsBased r (global_kind_of (slice_get gs n))
-of_global r [] n all = no_struct (entities_in r.program.items) Base.Void not_void
+of_global r [] n all = void_based r
 of_global r (g ∷ rest) zero all = subst (HasBase (entities_in r.program.items)) (sym (global_base g.form (declared_kind g.declaration.written))) all.0
 of_global r (g ∷ rest) (suc n) all = of_global r rest n all.1
 
 of_result : (r : Resolution) (fs : List Function) (n : ℕ) → AllByRecursion (λ (f : Function). HasBase (entities_in r.program.items) f.result.ctype.base) fs → IsBased r (result_kind_of (slice_get fs n))
-of_result r [] n all = no_struct (entities_in r.program.items) Base.Void not_void
+of_result r [] n all = void_based r
 of_result r (f ∷ rest) zero all = all.0
 of_result r (f ∷ rest) (suc n) all = of_result r rest n all.1
 
 abbrev AllBased : Resolution → Type 0
-AllBased r = HoldInAll (λ (w : WrittenType). HasBase (entities_in r.program.items) w.ctype.base) r.program.items
+AllBased r = HoldInAll (HasItsBase r) r.program.items
 
 name_based : (r : Resolution) → AllBased r → (n : Named) → IsBased r (named_kind r n)
 name_based r all (Named.Global n) = of_global r (globals_in r.program.items) n all.globals
 name_based r all (Named.Variable token) = of_declaration r (declarations_in r.program.items) token all.declarations
 name_based r all (Named.Field token) = of_declaration r (declarations_in r.program.items) token all.declarations
-name_based r all _ = no_struct (entities_in r.program.items) Base.Void not_void
+name_based r all _ = void_based r
 
 called_based : (r : Resolution) → AllBased r → (n : Named) → IsBased r (called_kind r n)
 called_based r all (Named.Function n) = of_result r (functions_in r.program.items) n all.results
-called_based r all (Named.Variable token) = no_struct (entities_in r.program.items) Base.Void not_void
-called_based r all (Named.Field token) = no_struct (entities_in r.program.items) Base.Void not_void
-called_based r all _ = no_struct (entities_in r.program.items) Base.Void not_void
+called_based r all _ = void_based r
 
 either_int : (r : Resolution) (b : Bool) → IsBased r (cond b long int)
-either_int r true = no_struct (entities_in r.program.items) Base.Long not_long
-either_int r false = no_struct (entities_in r.program.items) Base.Int not_int
+either_int r true = long_based r
+either_int r false = int_based r
 
 number_based : (r : Resolution) (w : NumberType) → IsBased r (number_kind w)
-number_based r NumberType.Int = no_struct (entities_in r.program.items) Base.Int not_int
-number_based r NumberType.Long = no_struct (entities_in r.program.items) Base.Long not_long
+number_based r NumberType.Int = int_based r
+number_based r NumberType.Long = long_based r
 
 constant_based : (r : Resolution) (c : Constant) → IsBased r (constant_kind c)
 constant_based r (Number n) = number_based r n.number_type
-constant_based r (Character byte) = no_struct (entities_in r.program.items) Base.Int not_int
-constant_based r Null = no_struct (entities_in r.program.items) Base.Void not_void
+constant_based r (Character byte) = int_based r
+constant_based r Null = void_based r
 
 element_based : (r : Resolution) (k : Kind) → IsBased r k → IsBased r (element_kind k)
 element_based r (array b n) h = h
 element_based r _ h = h
 
 unary_based : (r : Resolution) (o : UnaryOperator) (k : Kind) → IsBased r k → IsBased r (unary_result o k)
-unary_based r Not k h = no_struct (entities_in r.program.items) Base.Int not_int
+unary_based r Not k h = int_based r
 unary_based r Dereference k h = element_based r k h
 unary_based r _ k h = either_int r (is_long k)
 
 binary_based : (r : Resolution) (o : OperatorClass) (j k : Kind) → IsBased r (binary_result o j k)
 binary_based r Shift j k = either_int r (is_long j)
 binary_based r Arithmetic j k = either_int r _
-binary_based r _ j k = no_struct (entities_in r.program.items) Base.Int not_int
+binary_based r _ j k = int_based r
 
-expression_based : (r : Resolution) → AllBased r → (e : Expression) → HaveCasts (λ (w : WrittenType). HasBase (entities_in r.program.items) w.ctype.base) (expressions e) → IsBased r (kind_at r e)
+expression_based : (r : Resolution) → AllBased r → (e : Expression) → HaveCasts (HasItsBase r) (expressions e) → IsBased r (kind_at r e)
 expression_based r all (identifier s i) h = name_based r all (named_at r i.site.token)
 expression_based r all (constant s c) h = constant_based r c
 expression_based r all (parentheses s a) h = expression_based r all a h
 expression_based r all (call s f args) h = called_based r all (named_at r f.site.token)
-expression_based r all (spawn s f a) h = no_struct (entities_in r.program.items) Base.Int not_int
+expression_based r all (spawn s f a) h = int_based r
 expression_based r all (cast s t a) h = h.0
-expression_based r all (index s a i) h = element_based r (kind_at r a) (expression_based r all a (first_casts (λ (w : WrittenType). HasBase (entities_in r.program.items) w.ctype.base) (expressions a) (expressions i) h))
+expression_based r all (index s a i) h = element_based r (kind_at r a) (expression_based r all a (first_casts (HasItsBase r) (expressions a) (expressions i) h))
 expression_based r all (field s a w n) h = name_based r all (named_at r n.site.token)
 expression_based r all (unary s o a) h = unary_based r o (kind_at r a) (expression_based r all a h)
 expression_based r all (binary s o at a b) h = binary_based r (class_of o) (kind_at r a) (kind_at r b)
-expression_based r all _ h = no_struct (entities_in r.program.items) Base.Void not_void
+expression_based r all _ h = void_based r
 
-pub given_based : (r : Resolution) (e : Expression) → HaveCasts (λ (w : WrittenType). HasBase (entities_in r.program.items) w.ctype.base) (expressions e) → HasBase (entities_in r.program.items) (base_of (kind_at r e))
-given_based r e h =
-    let all : Have (λ (w : WrittenType). HasBase (entities_in r.program.items) w.ctype.base) (entities_in r.program.items) = each_has (entities_in r.program.items) (entities_in r.program.items) (own_base (entities_in r.program.items)) in
-    expression_based r (in_all (λ (w : WrittenType). HasBase (entities_in r.program.items) w.ctype.base) r all) e h
+pub given_based : (r : Resolution) (e : Expression) → HaveCasts (HasItsBase r) (expressions e) → HasBase (entities_in r.program.items) (base_of (kind_at r e))
+given_based r e h = expression_based r (in_all (HasItsBase r) r (each_has (entities_in r.program.items) (entities_in r.program.items) (λ b has. has))) e h

@@ -55,8 +55,7 @@ wanted_again m e c says setup (of_declared token) stands said given wants =
     ap Some (types_stay m e c setup.whole setup.placed says token token (λ same also. omega (arith, same, less, at))) ∙ wants
 wanted_again m e c says setup (of_left u) stands said given wants =
     let at : (span_of setup.site.giving.given).first.token ≡ c.from = begins m e c says setup in
-    let before : (span_of u).last.token < (span_of setup.site.giving.given).first.token = stands.before in
-    let h = spine m c setup.frame stands.scope AsLvalue u stands.placed (omega (arith, at, before)) stands.typed stands.strong stands.held in
+    let h = spine m c setup.frame stands.scope AsLvalue u stands.placed (omega (arith, at, stands.before)) stands.typed stands.strong stands.held in
     left_wanted m c setup.frame (fits m e c says setup) setup.site.giving.scope setup.site.expected (keeps_expected m c says.are.named setup.site) (row_at m.typed u) _ h.rows wants
 wanted_again m e c says setup (of_parameter f all k) stands said given wants =
     let tells : ℕ → Bool = says.are.named in

@@ -36,15 +36,9 @@ row_same : (first : ℕ) (new : List Mode) (m now : Assignment) → HasInserted 
 row_same first new m now has p q n place =
     row_modes now q n ∙ ap (λ (l : List Mode). map sharing_of (take n (drop q l))) has.modes ∙ ap (map sharing_of) (same_stretch first new m.modes p q n has.within place) ∙ sym (row_modes m p n)
 
-shifted_deeper : (first count p q n : ℕ) → (n ≡ 0 → ⊥) → IsShifted first count p q n → IsShifted first count (p + 1) (q + 1) (n - 1)
-shifted_deeper first count p q n some (inl w) =
-    let ends : p + n ≤ first = w.0 in
-    let same : q ≡ p = w.1 in
-    inl (omega (arith, some, ends), omega (arith, same))
-shifted_deeper first count p q n some (inr w) =
-    let low : first ≤ p = w.0 in
-    let same : q ≡ p + count = w.1 in
-    inr (omega (arith, low), omega (arith, same))
+pub shifted_deeper : (first count p q n : ℕ) → (n ≡ 0 → ⊥) → IsShifted first count p q n → IsShifted first count (p + 1) (q + 1) (n - 1)
+shifted_deeper first count p q n some (inl (ends, same)) = inl (omega (arith, some, ends), omega (arith, same))
+shifted_deeper first count p q n some (inr (low, same)) = inr (omega (arith, low), omega (arith, same))
 
 deeper_by : (first : ℕ) (new : List Mode) (m now : Assignment) → HasInserted first new m now → (p q n : ℕ) → IsShifted first (length new) p q n → (b : Bool) → (n == 0) ≡ b
     → modes_of now (cond b (row_of q n) (row_of (q + 1) (n - 1))) ≡ modes_of m (cond b (row_of p n) (row_of (p + 1) (n - 1)))

@@ -1,5 +1,5 @@
 -- An expression that comes before the cast points to what it pointed to, with the modes that it had.
-use Rattle.sharc_suggest_laws.proofs.{Imports.{◌≡◌, ◌⊎◌, inl, inr, ℕ, zero, suc, ◌+◌, ◌-◌, ◌<◌, ◌≤◌, ◌==◌, Bool, true, false, cond, List, [], ◌∷◌, length, Option, Some, None, option_map, slice_get, refl, ap, sym, subst, ◌∙◌, eqb-true, arith, false≢true, true≢false, eqb-false, slice_get-map, AllByRecursion, Declaration, GlobalDefinition, FieldOperator, Dot, Arrow, Constant, Null, UnaryOperator, Negate, Dereference, Expression, identifier, Function, Named, Indexed, Role, Kind, met, Recast, with_cast, function_with_cast, recast_of, targets, resolution_with, is_dull, KeepsName, met_in_items, begins_at, Entity, Numbered, entity_at, positions_of, element_of, operand_need, unary_kind, Resolution, named_at, globals_in, functions_in, declarations_in, declared_at, global_at, function_at, declaration_at, variable_kind, global_kind_of, result_kind_of, named_kind, called_kind, Cast, Assignment, PathReading, written, Targets, is_constant_named, constant_use, base_use, no_row, deeper, targets_from, entity_row, declared_row, global_row, named_row, result_row, called_row, constant_row, reading_through, unary_row, is_field, is_call_at, none_some}, Clear.{IsClearAt, begun_in, AreClear}, Constants.{AllKept, constants_same}, Declared.{same_globals, same_functions, same_declarations}, Found.AreMoved, Lefts.is_function, Stands.{IsAdded, first_place}, Types.all_others}
+use Rattle.sharc_suggest_laws.proofs.{Imports.{◌≡◌, ◌⊎◌, inl, inr, ℕ, zero, suc, ◌+◌, ◌-◌, ◌<◌, ◌==◌, Bool, true, false, cond, List, [], ◌∷◌, length, Option, Some, None, option_map, slice_get, refl, ap, sym, subst, ◌∙◌, eqb-true, arith, false≢true, true≢false, eqb-false, slice_get-map, AllByRecursion, Declaration, GlobalDefinition, FieldOperator, Dot, Arrow, Constant, Null, UnaryOperator, Negate, Dereference, Expression, identifier, Function, Named, Indexed, Role, Kind, met, Recast, with_cast, function_with_cast, recast_of, targets, resolution_with, is_dull, KeepsName, met_in_items, begins_at, Entity, Numbered, entity_at, positions_of, element_of, operand_need, unary_kind, Resolution, named_at, globals_in, functions_in, declarations_in, declared_at, global_at, function_at, declaration_at, variable_kind, global_kind_of, result_kind_of, named_kind, called_kind, Cast, Assignment, PathReading, written, Targets, is_constant_named, constant_use, base_use, no_row, deeper, targets_from, entity_row, declared_row, global_row, named_row, result_row, called_row, constant_row, reading_through, unary_row, is_field, is_call_at, none_some}, Clear.{IsClearAt, begun_in, AreClear}, Constants.{AllKept, constants_same}, Declared.{same_globals, same_functions, same_declarations}, Found.AreMoved, Lefts.is_function, Rows.{IsShifted, shifted_deeper}, Stands.{IsAdded, first_place}, Types.all_others}
 use Rattle.sharc_names.specs.Kinds as kinds
 use Rattle.sharc_mode.specs.Rows.{behind}
 
@@ -21,32 +21,18 @@ many c = length (targets c.to.levels)
 
 pub record IsRowMoved (first count : ℕ) (how later : PathReading) (old new : Targets) : Type 0 where
   pub counted : new.count ≡ old.count
-  pub place : (old.count ≡ 0) ⊎ ((((old.first + old.count ≤ first) × (new.first ≡ old.first)) ⊎ ((first ≤ old.first) × (new.first ≡ old.first + count))) × (old.reading ≡ how) × (new.reading ≡ later))
+  pub place : (old.count ≡ 0) ⊎ (IsShifted first count old.first new.first old.count × (old.reading ≡ how) × (new.reading ≡ later))
 
 none_moved : (first count : ℕ) (how later : PathReading) → IsRowMoved first count how later no_row no_row
 none_moved first count how later = record { counted = refl; place = inl refl }
 
-place_of : ℕ → ℕ → Numbered → Numbered → Type 0
-place_of first count o n = ((o.first + positions_of o.entity ≤ first) × (n.first ≡ o.first)) ⊎ ((first ≤ o.first) × (n.first ≡ o.first + count))
-
-deep_moved : (first count : ℕ) (how later : PathReading) (p q n : ℕ) → (((p + n ≤ first) × (q ≡ p)) ⊎ ((first ≤ p) × (q ≡ p + count))) → (b : Bool) → (n == 0) ≡ b
+deep_moved : (first count : ℕ) (how later : PathReading) (p q n : ℕ) → IsShifted first count p q n → (b : Bool) → (n == 0) ≡ b
     → IsRowMoved first count how later (cond b (record { first = p; count = n; reading = how }) (record { first = p + 1; count = n - 1; reading = how }))
     (cond b (record { first = q; count = n; reading = later }) (record { first = q + 1; count = n - 1; reading = later }))
 deep_moved first count how later p q n place true is = record { counted = refl; place = inl (eqb-true n 0 is) }
-deep_moved first count how later p q n place false is = record { counted = refl; place = inr (by place, refl, refl) }
-  where
-    by : (((p + n ≤ first) × (q ≡ p)) ⊎ ((first ≤ p) × (q ≡ p + count))) → (((p + 1 + (n - 1) ≤ first) × (q + 1 ≡ p + 1)) ⊎ ((first ≤ p + 1) × (q + 1 ≡ p + 1 + count)))
-    by (inl w) =
-        let some : n ≡ 0 → ⊥ = eqb-false n 0 is in
-        let ends : p + n ≤ first = w.0 in
-        let same : q ≡ p = w.1 in
-        inl (omega (arith, some, ends), omega (arith, same))
-    by (inr w) =
-        let low : first ≤ p = w.0 in
-        let same : q ≡ p + count = w.1 in
-        inr (omega (arith, low), omega (arith, same))
+deep_moved first count how later p q n place false is = record { counted = refl; place = inr (shifted_deeper first count p q n (eqb-false n 0 is) place, refl, refl) }
 
-role_moved : (what : Role) (first count : ℕ) (how later : PathReading) (p q n : ℕ) → (((p + n ≤ first) × (q ≡ p)) ⊎ ((first ≤ p) × (q ≡ p + count)))
+role_moved : (what : Role) (first count : ℕ) (how later : PathReading) (p q n : ℕ) → IsShifted first count p q n
     → IsRowMoved first count how later (targets_from what (record { first = p; count = n; reading = how })) (targets_from what (record { first = q; count = n; reading = later }))
 role_moved Role.Global first count how later p q n place = deep_moved first count how later p q n place (n == 0) refl
 role_moved _ first count how later p q n place = record { counted = refl; place = inr (place, refl, refl) }
@@ -198,26 +184,10 @@ deeper_by : (first count : ℕ) (how : PathReading) (o n : Targets) → IsRowMov
 deeper_by first count how o n h true is = h
 deeper_by first count how o n h false is = record { counted = ap (λ (k : ℕ). k - 1) h.counted; place = by h.place }
   where
-    some : o.count ≡ 0 → ⊥
-    some = eqb-false o.count 0 is
-
-    IsShiftedBy : ℕ → ℕ → ℕ → Type 0
-    IsShiftedBy p q k = ((p + k ≤ first) × (q ≡ p)) ⊎ ((first ≤ p) × (q ≡ p + count))
-
-    shift : IsShiftedBy o.first n.first o.count → IsShiftedBy (o.first + 1) (n.first + 1) (o.count - 1)
-    shift (inl w) =
-        let ends : o.first + o.count ≤ first = w.0 in
-        let same : n.first ≡ o.first = w.1 in
-        let more : o.count ≡ 0 → ⊥ = some in
-        inl (omega (arith, more, ends), omega (arith, same))
-    shift (inr w) =
-        let low : first ≤ o.first = w.0 in
-        let same : n.first ≡ o.first + count = w.1 in
-        inr (omega (arith, low), omega (arith, same))
-
-    by : (o.count ≡ 0) ⊎ (IsShiftedBy o.first n.first o.count × (o.reading ≡ how) × (n.reading ≡ how)) → (o.count - 1 ≡ 0) ⊎ (IsShiftedBy (o.first + 1) (n.first + 1) (o.count - 1) × (o.reading ≡ how) × (n.reading ≡ how))
-    by (inl none) = absurd (some none)
-    by (inr w) = inr (shift w.0, w.1, w.2)
+    by : (o.count ≡ 0) ⊎ (IsShifted first count o.first n.first o.count × (o.reading ≡ how) × (n.reading ≡ how))
+        → (o.count - 1 ≡ 0) ⊎ (IsShifted first count (o.first + 1) (n.first + 1) (o.count - 1) × (o.reading ≡ how) × (n.reading ≡ how))
+    by (inl none) = absurd (eqb-false o.count 0 is none)
+    by (inr w) = inr (shifted_deeper first count o.first n.first o.count (eqb-false o.count 0 is) w.0, w.1, w.2)
 
 deeper_moved : (first count : ℕ) (how : PathReading) (o n : Targets) → IsRowMoved first count how how o n → IsRowMoved first count how how (deeper o) (deeper n)
 deeper_moved first count how o n h =

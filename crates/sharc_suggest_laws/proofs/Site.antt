@@ -1,5 +1,5 @@
 -- What a cast was suggested for.
-use Rattle.sharc_suggest_laws.proofs.Imports.{◌≡◌, ℕ, ◌==◌, Bool, true, false, cond, ◌⊎◌, inl, inr, List, [], ◌∷◌, ◌++◌, Option, Some, None, refl, ap, sym, subst, ◌∙◌, eqb-true, Cast, ModeError, is_mismatch, Assignment, modes_at, Sharing, suggested_for, suggested_in, cast_at, IsSuggested, repair_with, is_repairable, cast_to, Giving, items_givings, wanted}
+use Rattle.sharc_suggest_laws.proofs.Imports.{◌≡◌, ℕ, ◌==◌, Bool, true, false, cond, ◌⊎◌, inl, inr, List, [], ◌∷◌, ◌++◌, Option, Some, None, refl, ap, sym, subst, ◌∙◌, eqb-true, Cast, ModeError, is_mismatch, Assignment, modes_at, Sharing, suggested_for, suggested_in, cast_at, IsSuggested, repair_with, is_repairable, cast_to, Giving, items_givings, wanted, none_some, one_some}
 
 -- it is one of these
 abbrev pub IsAmong : Cast → List Cast → Type 0
@@ -8,29 +8,23 @@ IsAmong x (y ∷ rest) = (y ≡ x) ⊎ IsAmong x rest
 
 -- ---- the first cast at a token is one of them, and lies there
 
-no_cast : (x : Cast) → None ≡ Some x → ⊥
-no_cast x is = cc
-
-some_cast : (x y : Cast) → Some y ≡ Some x → y ≡ x
-some_cast x y is = cc
-
 record IsFirstAt (x : Cast) (casts : List Cast) (token : ℕ) : Type 0 where
   among : IsAmong x casts
   there : x.site.token ≡ token
 
 first_by : (x y : Cast) (token : ℕ) (b : Bool) (found : Option Cast) (rest : List Cast) → y.site.token == token ≡ b → cond b (Some y) found ≡ Some x → (found ≡ Some x → IsFirstAt x rest token) → IsFirstAt x (y ∷ rest) token
 first_by x y token true found rest at is more =
-    let same : y ≡ x = some_cast x y is in
+    let same : y ≡ x = one_some y x is in
     record { among = inl same; there = ap (λ (z : Cast). z.site.token) (sym same) ∙ eqb-true y.site.token token at }
 first_by x y token false found rest at is more = let w = more is in record { among = inr w.among; there = w.there }
 
 first_at : (x : Cast) (casts : List Cast) (token : ℕ) → cast_at casts token ≡ Some x → IsFirstAt x casts token
-first_at x [] token is = absurd (no_cast x is)
+first_at x [] token is = absurd (none_some x is)
 first_at x (y ∷ rest) token is = first_by x y token (y.site.token == token) (cast_at rest token) rest refl is (first_at x rest token)
 
 for_by : (x : Cast) (casts : List Cast) (b : Bool) (token : ℕ) → cond b (cast_at casts token) None ≡ Some x → IsFirstAt x casts token
 for_by x casts true token is = first_at x casts token is
-for_by x casts false token is = absurd (no_cast x is)
+for_by x casts false token is = absurd (none_some x is)
 
 -- ---- and it is suggested for one of the givings
 

@@ -1,6 +1,6 @@
 -- A token that names a global or a function in a program at its tokens has the text of what the file knows as that; and one that names what the program does not define
 -- shows that the file knows the calls of condition variables.
-use Rattle.sharc_suggest_laws.proofs.{Imports.{◌≡◌, ◌⊎◌, inl, inr, ⊎_elim, ℕ, zero, suc, ◌+◌, ◌<◌, Bool, true, false, cond, List, [], ◌∷◌, ◌++◌, length, drop, get_or, Option, Some, None, slice_get, bytes_eq, refl, ap, sym, ◌∙◌, arith, false≢true, AllByRecursion, Base, Mode, Locked, Path, One, Through, Token, WrittenType, Declaration, Mark, a_name, path_marks, level_marks, levels_marks, base_marks, IsMark, AreMarks, PlacedType, Placed, AllPlaced, Expression, identifier, constant, parentheses, call, spawn, on_value, on_place, cast, index, field, unary, binary, Arguments, no_arguments, argument, Named, Scope, Role, Kind, Entry, Meaning, StructMeaning, StructTable, look_up, named_of, struct_of, field_of, Note, fault, refers, yields, met, first_wanted, Value, Integer, Indexed, is_fine, field_in, name_notes, main_notes, field_notes, first_kind, second_in, second_notes, path_notes, mode_notes, modes_notes, struct_note, base_notes, type_notes, Standing, AsValue, AsLvalue, access_need, operand_need, class_of, operands_need, place_kind, count, spawn_wanted, callee_notes, spawn_notes, type_of, notes_at, notes_of_all, Resolution, with_names, is_here, is_field, text_of, text_at, joint}, Calls.KnowsCalls, Mild.is_filed, Noted.{AreFaults, IsFault, unless_faults, unmet_faults, unagreed_faults, place_faults, place_call_faults, cast_faults, count_faults, main_faults, binary_faults}}
+use Rattle.sharc_suggest_laws.proofs.{Imports.{◌≡◌, ◌⊎◌, inl, inr, ⊎_elim, ℕ, zero, suc, ◌+◌, ◌<◌, Bool, true, false, cond, List, [], ◌∷◌, ◌++◌, length, drop, get_or, Option, Some, None, slice_get, bytes_eq, refl, ap, sym, ◌∙◌, arith, false≢true, AllByRecursion, Base, Mode, Locked, Path, One, Through, Token, WrittenType, Declaration, Mark, a_name, path_marks, level_marks, levels_marks, base_marks, IsMark, AreMarks, PlacedType, Placed, AllPlaced, Expression, identifier, constant, parentheses, call, spawn, on_value, on_place, cast, index, field, unary, binary, Arguments, no_arguments, argument, Named, Scope, Role, Kind, Entry, Meaning, StructMeaning, StructTable, look_up, named_of, struct_of, field_of, Note, fault, refers, yields, met, first_wanted, Value, Integer, Indexed, is_fine, field_in, name_notes, main_notes, field_notes, first_kind, second_in, second_notes, path_notes, mode_notes, modes_notes, struct_note, base_notes, type_notes, Standing, AsValue, AsLvalue, access_need, operand_need, class_of, operands_need, place_kind, count, spawn_wanted, callee_notes, spawn_notes, type_of, notes_at, notes_of_all, Resolution, with_names, is_here, is_field, text_of, text_at, joint, one_some}, Calls.KnowsCalls, Mild.is_filed, Noted.{AreFaults, IsFault, unless_faults, unmet_faults, unagreed_faults, place_faults, place_call_faults, cast_faults, count_faults, main_faults, binary_faults}}
 use Rattle.sharc_names.specs.Types.{first_notes}
 use Rattle.sharc_names.specs.Names as meaning
 use Rattle.sharc_ctype.specs.{Expressions.wanted, Statements.declared}
@@ -82,9 +82,6 @@ over_file file text e is = inr is
 over_by : (file names : List Entry) (d : Declaration) (from : ℕ) → IsOver file names → (text : List ℕ) (e : Entry) (b : Bool) → cond b (Some (record { name = d.name.text; block = from; meaning = meaning.variable d })) (look_up names text) ≡ Some e
     → (is_variable e.meaning ≡ true) ⊎ (look_up file text ≡ Some e)
 over_by file names d from over text e true is = inl (ap (λ (x : Entry). is_variable x.meaning) (sym (one_some _ e is)))
-  where
-    one_some : (a b : Entry) → Some a ≡ Some b → a ≡ b
-    one_some a b h = cc
 over_by file names d from over text e false is = over text e is
 
 over_if : (file names : List Entry) (d : Declaration) (from : ℕ) (b : Bool) → IsOver file names → IsOver file (cond b names (record { name = d.name.text; block = from; meaning = meaning.variable d } ∷ names))

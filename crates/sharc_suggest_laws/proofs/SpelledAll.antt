@@ -1,5 +1,5 @@
 -- The same of statements, and of the whole program.
-use Rattle.sharc_suggest_laws.proofs.{Imports.{◌≡◌, ⊎_elim, ℕ, ◌+◌, ◌<◌, ◌≤◌, ◌==◌, ◌||◌, not, nat_lt, Bool, true, false, cond, List, [], ◌∷◌, ◌++◌, length, get_or, Contains, Option, Some, None, IfSome, is_some, bytes_eq, codes, refl, ap, sym, subst, ◌∙◌, eqb-true, false≢true, true≢false, cases_lt, bytes_eq-Decides, AllByRecursion, Declaration, items_marks, PlacedDeclarations, Placed, PlacedRight, PlacedSimple, PlacedLocal, PlacedFirst, PlacedStatement, PlacedStatements, PlacedItem, PlacedItems, IsPlaced, Expression, Right, value, malloc, Simple, assign, does_call, Local, First, nothing, declares, does, Statement, Statements, no_statements, statement, Function, Item, structure, global, function, DefinedTwice, LimitPassed, TypeMismatch, BadForm, Named, Scope, Kind, void, same_kind, declared_kind, met, Value, Integer, Entry, look_up, named_of, field_of, Note, is_free, fault, refers, yields, fault_unless, fault_where, referred, is_fine, type_notes, Role, type_of, place_kind, AsValue, AsLvalue, known_in, defines_condition, with_conditions, Heading, with_entry, global_entry, function_entry, item_head_notes, heads_notes, behind, behind_all, no_heads, fields_notes, parameters_notes, item_notes, items_notes, file_scope, notes_about, named_in, name_tokens, Resolution, IsResolved, named_at, Around, opened, looping, with_names, declared_notes, is_here, test_notes, count_notes, right_notes, simple_notes, is_made, is_aggregate, wanted_by, returned_as, initial_notes, local_notes, return_notes, first_notes, tests_notes, step_notes, notes_in, notes_in_all, locals_in_all, is_field, text_at, Tells, IsToldOnce, is_dull, back, joint}, Folded.{seen, named_seen, named_past, IsOwnAt}, Owned.told_or_not, Words.{name_there, name_apart, call_text}, Calls.{KnowsCalls, no_global, no_function, calls_known}, Mild.{IsSpelled, is_filed}, Noted.{Clean, left, right, behind_head, not_wrong, unless_faults, where_faults, unmet_faults, unagreed_faults, place_faults}, Reread.{length_faults, initial_faults, sizes_faults, beyond_faults}, Spelled.{IsFiledAs, IsSpelt, AreSpelt, not_filed, plainly, faults_spelt, text_is, IsOver, over_file, over_with, type_spelt, behind_faults, inside}}
+use Rattle.sharc_suggest_laws.proofs.{Imports.{◌≡◌, ⊎_elim, ℕ, ◌+◌, ◌<◌, ◌≤◌, ◌==◌, ◌||◌, not, nat_lt, Bool, true, false, cond, List, [], ◌∷◌, ◌++◌, length, get_or, Contains, Option, Some, None, IfSome, is_some, bytes_eq, codes, refl, ap, sym, subst, ◌∙◌, eqb-true, false≢true, true≢false, cases_lt, bytes_eq-Decides, AllByRecursion, Declaration, items_marks, PlacedDeclarations, Placed, PlacedRight, PlacedSimple, PlacedLocal, PlacedFirst, PlacedStatement, PlacedStatements, PlacedItem, PlacedItems, IsPlaced, Expression, Right, value, malloc, Simple, assign, does_call, Local, First, nothing, declares, does, Statement, Statements, no_statements, statement, Function, Item, structure, global, function, DefinedTwice, LimitPassed, TypeMismatch, BadForm, Named, Scope, Kind, void, same_kind, declared_kind, met, Value, Integer, Entry, look_up, named_of, field_of, Note, is_free, fault, refers, yields, fault_unless, fault_where, referred, is_fine, type_notes, Role, type_of, place_kind, AsValue, AsLvalue, known_in, defines_condition, with_conditions, Heading, with_entry, global_entry, function_entry, item_head_notes, heads_notes, behind, behind_all, no_heads, fields_notes, parameters_notes, item_notes, items_notes, file_scope, notes_about, named_in, name_tokens, Resolution, IsResolved, named_at, Around, opened, looping, with_names, declared_notes, is_here, test_notes, count_notes, right_notes, simple_notes, is_made, is_aggregate, wanted_by, returned_as, initial_notes, local_notes, return_notes, first_notes, tests_notes, step_notes, notes_in, notes_in_all, locals_in_all, is_field, text_at, Tells, IsToldOnce, is_dull, back, joint, one_some}, Folded.{seen, named_seen, named_past, IsOwnAt}, Owned.told_or_not, Words.{name_there, name_apart, call_text}, Calls.{KnowsCalls, no_global, no_function, calls_known}, Mild.{IsSpelled, is_filed}, Noted.{Clean, left, right, behind_head, not_wrong, unless_faults, where_faults, unmet_faults, unagreed_faults, place_faults}, Reread.{length_faults, initial_faults, sizes_faults, beyond_faults}, Spelled.{IsFiledAs, IsSpelt, AreSpelt, not_filed, plainly, faults_spelt, text_is, IsOver, over_file, over_with, type_spelt, behind_faults, inside}}
 use Rattle.sharc_tree.specs.Tree as tree
 use Rattle.sharc_ctype.specs.{Items.{field_notes, with_parameters}, Statements.{declared, behind_first, after}}
 
@@ -286,9 +286,6 @@ spelled r resolved placed clean only once = record {
     untold : (token : ℕ) → AllByRecursion (IsOwnAt token Named.Known) (notes_about r.program) → named_at r token ≡ Named.Known
     untold token own =
         ⊎_elim (λ low. old token ∙ named_seen r.program token low ∙ none_told token (notes_about r.program) own) (λ past. old token ∙ named_past r.program token past) (cases_lt token (length r.program.tokens.list))
-
-    one_some : (a b : Entry) → Some a ≡ Some b → a ≡ b
-    one_some a b h = cc
 
     of_a_token : (token : ℕ) → is_filed (named_at r token) ≡ true → (e : Entry) → look_up file.names (text_at r token) ≡ Some e → token < length r.program.tokens.list → named_of e.meaning ≡ named_at r token
     of_a_token token filed e found low =

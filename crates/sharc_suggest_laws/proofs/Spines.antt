@@ -1,5 +1,5 @@
 -- What an expression that comes before the cast points to, and its type.
-use Rattle.sharc_suggest_laws.proofs.{Imports.{◌≡◌, ℕ, ◌+◌, ◌<◌, ◌≤◌, false, cond, ◌++◌, Option, Some, None, refl, ap, ap₂, sym, subst, ◌∙◌, arith, true≢false, AllByRecursion, Span, Declaration, expressions, Placed, span_of, Expression, identifier, constant, parentheses, call, cast, index, field, unary, binary, Named, Need, Integer, Indexed, Scope, Kind, is_array, element_kind, Entry, Meaning, look_up, named_of, met, unmet, name_notes, field_in, field_kind, field_notes, with_cast, recast_of, is_dull, OperatorClass, Shift, Standing, AsValue, element_of, access_need, operand_need, unary_result, unary_kind, class_of, operands_need, binary_result, binary_kind, binary_notes, type_of, notes_at, named_at, named_kind, kind_at, Cast, Assignment, written, named_row, reading_through, base_use, row_at, none_some, front, back}, Lefts.{IsTypedIn, is_function, typed_itself}, RowsStay.{Frame, now, many, first_at, IsRowMoved, AreRowsMoved, other_moved, named_kind_same, named_moved, call_moved, call_kind_same, base_same, element_moved, no_rows, unary_moved, constant_moved, element_held, operand_held}, Strong.{IsStrong, AreStrong}}
+use Rattle.sharc_suggest_laws.proofs.{Imports.{◌≡◌, ℕ, ◌+◌, ◌<◌, false, cond, ◌++◌, Option, Some, None, refl, ap, ap₂, sym, subst, ◌∙◌, arith, true≢false, AllByRecursion, Span, Declaration, expressions, Placed, span_of, Expression, identifier, constant, parentheses, call, cast, index, field, unary, binary, Named, Need, Integer, Indexed, Scope, Kind, is_array, element_kind, Entry, Meaning, look_up, named_of, met, unmet, name_notes, field_in, field_kind, field_notes, with_cast, recast_of, is_dull, OperatorClass, Shift, Standing, AsValue, element_of, access_need, operand_need, unary_result, unary_kind, class_of, operands_need, binary_result, binary_kind, binary_notes, type_of, notes_at, named_at, named_kind, kind_at, Cast, Assignment, written, named_row, reading_through, base_use, row_at, none_some, front, back}, Lefts.{IsTypedIn, is_function, typed_itself}, RowsStay.{Frame, now, many, first_at, IsRowMoved, AreRowsMoved, other_moved, named_kind_same, named_moved, call_moved, call_kind_same, base_same, element_moved, no_rows, unary_moved, constant_moved, element_held, operand_held}, Strong.{IsStrong, AreStrong}}
 use Rattle.sharc_names.specs.Kinds as kinds
 use Rattle.sharc_names.specs.Names as meaning
 use Rattle.sharc_mode.specs.Rows.{behind}
@@ -72,9 +72,8 @@ spine m c frame σ stands (call s f all) placed low typed strong held = record {
   kind = call_kind_same m c (named_at m.typed f.site.token) (named_at (now m c) f.site.token) (frame.kept f.site.token);
 }
 spine m c frame σ stands (cast s t a) placed low typed strong held =
-    let order : s.first.token ≤ s.last.token = placed.0.0.order in
     record {
-      rows = (None, other_moved m c frame written written s.first.token s.last.token (λ same also. omega (arith, same, order, low)));
+      rows = (None, other_moved m c frame written written s.first.token s.last.token (λ same also. omega (arith, same, placed.0.0.order, low)));
       kind = refl;
     }
 spine m c frame σ stands (index s a i) placed low typed strong held =

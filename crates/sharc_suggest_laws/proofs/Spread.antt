@@ -1,5 +1,5 @@
 -- What is in spans that follow one another: at most one value begins at a token, none where something is declared, and a cast is added to what has a type: one walk.
-use Rattle.sharc_suggest_laws.proofs.{Imports.{Bool, IfSome, Some, List, None, Option, [], arith, eqb-true, if◌then◌else◌, inl, inr, length, map, option_map, refl, subst, sym, ℕ, ◌++◌, ◌+◌, ◌<◌, ◌∙◌, ◌∷◌, ◌≡◌, ◌≤◌, AllByRecursion, joint, each, front, statement, value, expressions, function, in_option, in_right, in_simple, Placed, Follow, PlacedDeclaration, Declaration, PlacedFirst, First, PlacedHead, Head, PlacedItem, Item, PlacedItems, PlacedLocal, Local, PlacedRight, Right, PlacedSimple, Simple, PlacedStatement, Statement, PlacedStatements, Statements, declaration_spans, first_spans, form_spans, head_spans, item_spans, option_spans, point, statement_spans, Span, span_of, span_of_item, span_of_right, span_of_simple, span_of_statement, Expression, Function, assign, declares, does, does_call, global, malloc, no_statements, nothing, structure, declared, Token, Role, casts, entities_in, first_entities, head_entities, item_entities, local_entities, result_of, statement_entities, statements_entities, first_locals, locals_in, locals_in_all, Entity, Recast, with_cast, around, first_with_cast, head_with_cast, is_there, item_with_cast, local_with_cast, right_with_cast, simple_with_cast, statement_with_cast, statements_with_cast, ValuesBeginApart, begins_at, met_at, met_in_first, met_in_head, met_in_item, met_in_items, met_in_local, met_in_right, met_in_simple, met_in_statement, met_in_statements, met_inside, of_option}, Few.{Test, at_token, AtMostOnce, Few, few_both, few_in, few_value, whole as few_whole, none as few_none, behind_span as few_behind, alone, at_most_one}, Follows.split, Grown.{Grown, Grows, joined as grown_joined, whole as grown_whole, none as grown_none, behind_span as grown_behind, before_spans as grown_before, again as grown_again, one_in, one_declared, all_declared, joined_casts, grown_in, grown_value}}
+use Rattle.sharc_suggest_laws.proofs.{Imports.{Bool, IfSome, Some, List, None, Option, [], arith, eqb-true, if◌then◌else◌, inl, inr, length, map, option_map, refl, subst, sym, ℕ, ◌++◌, ◌+◌, ◌<◌, ◌∙◌, ◌∷◌, ◌≡◌, ◌≤◌, AllByRecursion, joint, each, front, statement, value, expressions, function, in_option, in_right, in_simple, Placed, Follow, PlacedDeclaration, Declaration, PlacedFirst, First, PlacedHead, Head, PlacedItem, Item, PlacedItems, PlacedLocal, Local, PlacedRight, Right, PlacedSimple, Simple, PlacedStatement, Statement, PlacedStatements, Statements, declaration_spans, first_spans, form_spans, head_spans, item_spans, option_spans, point, statement_spans, Span, span_of, span_of_item, span_of_right, span_of_simple, span_of_statement, Expression, Function, assign, declares, does, does_call, global, malloc, no_statements, nothing, structure, declared, Token, Role, casts, entities_in, first_entities, head_entities, item_entities, local_entities, result_of, statement_entities, statements_entities, first_locals, locals_in, locals_in_all, Entity, Recast, with_cast, around, first_with_cast, head_with_cast, is_there, item_with_cast, local_with_cast, right_with_cast, simple_with_cast, statement_with_cast, statements_with_cast, ValuesBeginApart, begins_at, met_at, met_in_first, met_in_head, met_in_item, met_in_items, met_in_local, met_in_right, met_in_simple, met_in_statement, met_in_statements, met_inside, of_option}, Few.{Test, at_token, AtMostOnce, Few, few_both, few_in, few_value, whole as few_whole, none as few_none, behind_span as few_behind, alone, at_most_one}, Follows.{split, named_in}, Grown.{Grown, Grows, joined as grown_joined, whole as grown_whole, none as grown_none, behind_span as grown_behind, before_spans as grown_before, again as grown_again, one_in, one_declared, all_declared, joined_casts, grown_in, grown_value}}
 use Rattle.sharc_tree.specs.Placed.{IsWhole}
 use Rattle.sharc_tree.specs.Tree as tree
 
@@ -22,51 +22,34 @@ none_behind t from until n (inl none) high = none
 none_behind t from until n (inr w) high = let at : t < until = w.2 in absurd (omega (arith, high, at))
 
 clear_wider : (from until low high : ℕ) (n : ℕ → ℕ) (ds : List Declaration) → low ≤ from → until ≤ high → AllByRecursion (IsClear from until n) ds → AllByRecursion (IsClear low high n) ds
-clear_wider from until low high n ds le ge h =
-    each (IsClear from until n) (IsClear low high n)
-    (λ d w. let begins : from ≤ d.name.site.token = w.0 in let ends : d.name.site.token < until = w.1 in (omega (arith, le, begins), omega (arith, ends, ge), w.2)) ds h
+clear_wider from until low high n ds le ge h = each (IsClear from until n) (IsClear low high n) (λ d w. (omega (arith, le, w.0), omega (arith, w.1, ge), w.2)) ds h
 
 clear_joined : (all : List Token) (xs ys : List Span) (ds es : List Declaration) (n k : ℕ → ℕ) → FewIn all xs n → FewIn all ys k → ClearIn all xs ds n → ClearIn all ys es k → ClearIn all (xs ++ ys) (ds ++ es) (λ t. n t + k t)
 clear_joined all xs ys ds es n k few more left right from until le follow =
     let w = split all from until xs ys le follow in
-    let mid : ℕ = w.0 in
-    let low : from ≤ mid = w.1 in
-    let high : mid ≤ until = w.2 in
     joint (IsClear from until (λ t. n t + k t)) ds es
-    (each (IsClear from mid n) (IsClear from until (λ t. n t + k t))
+    (each (IsClear from w.0 n) (IsClear from until (λ t. n t + k t))
     (λ d h.
-    let ends : d.name.site.token < mid = h.1 in
     let none : n d.name.site.token ≡ 0 = h.2 in
-    let other : k d.name.site.token ≡ 0 = none_before d.name.site.token mid until (k d.name.site.token) (more d.name.site.token mid until high w.4) ends in
-    (h.0, omega (arith, ends, high), omega (arith, none, other))) ds (left from mid low w.3))
-    (each (IsClear mid until k) (IsClear from until (λ t. n t + k t))
+    let other : k d.name.site.token ≡ 0 = none_before d.name.site.token w.0 until (k d.name.site.token) (more d.name.site.token w.0 until w.2 w.4) h.1 in
+    (h.0, omega (arith, h.1, w.2), omega (arith, none, other))) ds (left from w.0 w.1 w.3))
+    (each (IsClear w.0 until k) (IsClear from until (λ t. n t + k t))
     (λ d h.
-    let begins : mid ≤ d.name.site.token = h.0 in
     let none : k d.name.site.token ≡ 0 = h.2 in
-    let other : n d.name.site.token ≡ 0 = none_behind d.name.site.token from mid (n d.name.site.token) (few d.name.site.token from mid low w.3) begins in
-    (omega (arith, low, begins), h.1, omega (arith, none, other))) es (right mid until high w.4))
+    let other : n d.name.site.token ≡ 0 = none_behind d.name.site.token from w.0 (n d.name.site.token) (few d.name.site.token from w.0 w.1 w.3) h.0 in
+    (omega (arith, w.1, h.0), h.1, omega (arith, none, other))) es (right w.0 until w.2 w.4))
 
 clear_whole : (all : List Token) (s : Span) (parts : List Span) (ds : List Declaration) (n : ℕ → ℕ) → IsWhole all s parts → ClearIn all parts ds n → ClearIn all (s ∷ []) ds n
-clear_whole all s parts ds n placed inner from until le follow =
-    let order : s.first.token ≤ s.last.token = placed.0.order in
-    let begins : from ≤ s.first.token = follow.1 in
-    let ends : s.last.token < until = follow.2 in
-    clear_wider s.first.token (s.last.token + 1) from until n ds begins (omega (arith, ends)) (inner s.first.token (s.last.token + 1) (omega (arith, order)) placed.1)
+clear_whole all s parts ds n (span, follows) inner from until le (_, begins, ends, _) =
+    clear_wider s.first.token (s.last.token + 1) from until n ds begins (omega (arith, ends)) (inner s.first.token (s.last.token + 1) (omega (arith, span.order)) follows)
 
 nothing_declared : (all : List Token) (spans : List Span) (n : ℕ → ℕ) → ClearIn all spans [] n
 nothing_declared all spans n from until le follow = tt
 
 -- ---- a declaration: nothing in its span
 
-pub one_clear : (all : List Token) (d : Declaration) → PlacedDeclaration all d → ClearIn all (d.span ∷ []) (d ∷ []) (λ t. 0)
-one_clear all d placed from until le follow =
-    let order : d.written.span.first.token ≤ d.written.span.last.token = placed.0.1.0.order in
-    let typed : d.span.first.token ≤ d.written.span.first.token = placed.0.1.1 in
-    let named : d.written.span.last.token + 1 ≤ d.name.site.token = placed.0.1.3.1 in
-    let within : d.name.site.token < d.span.last.token + 1 = placed.0.1.3.2 in
-    let begins : from ≤ d.span.first.token = follow.1 in
-    let ends : d.span.last.token < until = follow.2 in
-    ((omega (arith, begins, typed, order, named), omega (arith, within, ends), refl), tt)
+one_clear : (all : List Token) (d : Declaration) → PlacedDeclaration all d → ClearIn all (d.span ∷ []) (d ∷ []) (λ t. 0)
+one_clear all d placed from until le (_, begins, ends, _) = let here = named_in all d placed in ((omega (arith, begins, here.0), omega (arith, here.1, ends), refl), tt)
 
 clear_again : (all : List Token) (spans : List Span) (ds : List Declaration) (n k : ℕ → ℕ) → ((t : ℕ) → k t ≡ n t) → ClearIn all spans ds n → ClearIn all spans ds k
 clear_again all spans ds n k same inner from until le follow = each (IsClear from until n) (IsClear from until k) (λ d h. (h.0, h.1, same d.name.site.token ∙ h.2)) ds (inner from until le follow)

@@ -28,9 +28,8 @@ first_is m c added = ap first_of (stands m c added)
 pub first_fits : (m : Assignment) (c : Cast) (added : IsAdded m c) → IsWhole m → IsPlaced m.typed.program → first_place m c added ≤ length m.modes
 first_fits m c added whole placed =
     let low : first_new c m.typed ≤ 0 + positions_in (entities_in m.typed.program.items) = new_within m c placed in
-    let many : length m.modes ≡ positions_in (entities_in m.typed.program.items) = whole.modes in
     let same : first_new c m.typed ≡ first_place m c added = first_is m c added in
-    omega (arith, low, many, same)
+    omega (arith, low, whole.modes, same)
 
 pub suggested_stands : SuggestedStands
 suggested_stands m e c whole placed says =

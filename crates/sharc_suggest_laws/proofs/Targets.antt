@@ -1,6 +1,6 @@
 -- The targets of an expression of a typed program: as many as its type has stars, positions of one type that is written
 -- in the program, whose lock paths are read by a use of it.
-use Rattle.sharc_suggest_laws.proofs.{Imports.{◌≡◌, ◌⊎◌, inl, inr, ⊎_elim, ℕ, zero, suc, ◌+◌, ◌-◌, ◌≤◌, ◌==◌, Bool, true, false, cond, List, [], ◌∷◌, ◌++◌, length, Contains, Option, Some, None, refl, ap, sym, subst, ◌∙◌, arith, eqb-true, false≢true, length-drop, Base, NumberType, Span, Declaration, Identifier, WrittenType, FieldOperator, Dot, Arrow, Constant, Number, Character, Null, Negate, Complement, Dereference, GlobalDefinition, GlobalForm, Array, StructDefinition, expressions, Expression, identifier, constant, parentheses, call, cast, index, field, unary, binary, Function, Named, Role, Kind, object, array, null, is_array, is_long, declared_kind, element_kind, stars_of, int, long, field_of, global_kind, Entity, Numbered, OperatorClass, Shift, Arithmetic, declared, cast_entity, entities_in, entity_at, first_depth, is_told_by, numbered, positions_of, result_of, written_modes, number_kind, constant_kind, class_of, binary_result, Resolution, structs_in, declaration_at, global_at, function_at, named_at, named_kind, variable_kind, global_kind_of, result_kind_of, called_kind, kind_at, HasType, a_field, a_field_behind, pointed_to, struct_named, IsFound, IsNamedType, PathReading, written, through, at_call, Targets, no_row, deeper, targets_from, entity_row, declared_row, global_row, named_row, result_row, called_row, constant_row, reading_through, row_at, base_use, constant_use, is_constant_named, contains_behind, head_there}, Given.AreKnown, Holders.is_global, Leads.{ArgumentsFit, IsVariableAt, Leads}, Siblings.HasSiblings, Positions.{some_here as one_number, no_more as no_number}}
+use Rattle.sharc_suggest_laws.proofs.{Imports.{◌≡◌, ◌⊎◌, inl, inr, ⊎_elim, ℕ, zero, suc, ◌+◌, ◌-◌, ◌≤◌, ◌==◌, Bool, true, false, cond, List, [], ◌∷◌, ◌++◌, length, Contains, Option, Some, None, refl, ap, sym, subst, ◌∙◌, arith, eqb-true, false≢true, length-drop, Base, NumberType, Span, Declaration, Identifier, WrittenType, FieldOperator, Dot, Arrow, Constant, Number, Character, Null, Negate, Complement, Dereference, GlobalDefinition, GlobalForm, Array, StructDefinition, expressions, Expression, identifier, constant, parentheses, call, cast, index, field, unary, binary, Function, Named, Role, Kind, object, array, null, is_array, is_long, element_kind, stars_of, int, long, field_of, global_kind, Entity, Numbered, OperatorClass, Shift, Arithmetic, declared, cast_entity, entities_in, entity_at, first_depth, is_told_by, numbered, positions_of, result_of, written_modes, number_kind, constant_kind, class_of, binary_result, Resolution, structs_in, declaration_at, global_at, function_at, named_at, named_kind, variable_kind, global_kind_of, result_kind_of, called_kind, kind_at, HasType, a_field, a_field_behind, pointed_to, struct_named, IsFound, IsNamedType, PathReading, written, through, at_call, Targets, no_row, deeper, targets_from, entity_row, declared_row, global_row, named_row, result_row, called_row, constant_row, reading_through, row_at, base_use, constant_use, is_constant_named, contains_behind, head_there, one_some, none_some}, Given.AreKnown, Holders.is_global, Leads.{ArgumentsFit, IsVariableAt, Leads}, Siblings.HasSiblings}
 use Rattle.std.proofs.Common.{find}
 use Rattle.sharc_names.specs.Kinds as kinds
 use Rattle.sharc_mode.specs.Rows.{behind}
@@ -44,11 +44,11 @@ no_targets r = record { count = refl; from = inl refl }
 -- ---- those of a type
 
 found_contained : (test : Numbered → Bool) (l : List Numbered) (n : Numbered) → find test l ≡ Some n → Contains l n
-found_contained test [] n is = absurd (no_number n is)
+found_contained test [] n is = absurd (none_some n is)
 found_contained test (x ∷ rest) n is = by (test x) is (found_contained test rest n)
   where
     by : (b : Bool) → cond b (Some x) (find test rest) ≡ Some n → (find test rest ≡ Some n → Contains rest n) → Contains (x ∷ rest) n
-    by true at more = subst (Contains (x ∷ rest)) (one_number x n at) (head_there x rest)
+    by true at more = subst (Contains (x ∷ rest)) (one_some x n at) (head_there x rest)
     by false at more = contains_behind x rest n (more at)
 
 other_depth : (what : Role) → is_global what ≡ false → first_depth what ≡ 1
@@ -98,13 +98,12 @@ own_row r e other found how reading =
 deeper_of : (r : Resolution) (row : Targets) (b : Bool) → row.count == 0 ≡ b → IsOf r row → (row.count ≡ 0 → ⊥) → IsOf r (cond b row (record { first = row.first + 1; count = row.count - 1; reading = row.reading }))
 deeper_of r row true is of some = of
 deeper_of r row false is of some =
-    let first : row.first ≡ of.holder.first + of.skipped = of.first in
     let within : of.skipped + row.count ≤ positions_of of.holder.entity = of.within in
     record {
       holder = of.holder;
       stands = of.stands;
       skipped = of.skipped + 1;
-      first = omega (arith, first);
+      first = omega (arith, of.first);
       within = shorter of.skipped row.count (positions_of of.holder.entity) within some;
       names = of.names;
       reading = of.reading;

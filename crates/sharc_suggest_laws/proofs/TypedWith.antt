@@ -1,5 +1,5 @@
 -- An expression with a cast written in it has no fault where it had none, and the type that it had.
-use Rattle.sharc_suggest_laws.proofs.{Imports.{◌≡◌, ◌⊎◌, inl, inr, ℕ, ◌==◌, Bool, true, false, not, ◌&&◌, ◌||◌, cond, List, [], ◌∷◌, ◌++◌, zero, suc, drop, Option, Some, None, refl, ap, ap₂, sym, subst, ◌∙◌, eq-eqb, false≢true, bytes_eq-Decides, AllByRecursion, Base, Span, WrittenType, Declaration, without_parentheses, is_lvalue, expressions, in_arguments, span_of, Expression, identifier, parentheses, call, spawn, on_value, on_place, cast, index, field, unary, binary, Arguments, no_arguments, argument, TypeMismatch, NoLvalue, BadForm, Need, Value, Integer, Indexed, Scope, Kind, object, is_pointer, same_base, same_kind, declared_kind, Entry, Meaning, look_up, is_function, is_main, kind_of, place, called, fits, met, unmet, misfit, misfit_of, used_call, agreed, unagreed, fault, fault_unless, name_kind, main_notes, field_in, field_kind, field_notes, type_notes, is_fine, first_wanted, Role, Standing, AsValue, AsLvalue, OperatorClass, element_of, access_need, operand_need, unary_kind, class_of, operands_need, binary_kind, binary_notes, may_join, names_function, is_function_name, is_place, place_kind, place_notes, place_call_notes, value_call_kind, place_call_kind, keeps_kind, cast_kind, cast_notes, count, callee_notes, call_result, call_kind, may_spawn, spawn_wanted, spawn_kind, type_of, are_fine, notes_at, notes_of_all, kind_at, with_names, type_at, is_there, around, with_cast, all_with_cast, Receiver, of_parameter, Giving, one_giving, givings, all_givings, value_givings, front, back}, Grown.span_same, Lefts.{IsTypedIn, typed_itself}, Noted.{Clean, left, right, no_fault, behind_head, none, joined, unless, moved, referring}, Retyped.{Setting, cast_fine, count_same, fine_both, place_same}, Scoped.Scoped}
+use Rattle.sharc_suggest_laws.proofs.{Imports.{◌≡◌, ◌⊎◌, inl, inr, ℕ, ◌==◌, Bool, true, false, not, ◌&&◌, ◌||◌, cond, List, [], ◌∷◌, ◌++◌, zero, suc, drop, Option, Some, None, refl, ap, ap₂, sym, subst, ◌∙◌, eq-eqb, false≢true, bytes_eq-Decides, AllByRecursion, Base, Span, WrittenType, Declaration, without_parentheses, is_lvalue, expressions, in_arguments, span_of, Expression, identifier, parentheses, call, spawn, on_value, on_place, cast, index, field, unary, binary, Arguments, no_arguments, argument, TypeMismatch, NoLvalue, BadForm, Need, Value, Integer, Indexed, Scope, Kind, object, is_pointer, same_base, same_kind, declared_kind, Entry, Meaning, look_up, is_function, is_main, kind_of, place, called, fits, met, unmet, misfit, misfit_of, used_call, agreed, unagreed, fault, fault_unless, name_kind, main_notes, field_in, field_kind, field_notes, type_notes, is_fine, first_wanted, Role, Standing, AsValue, AsLvalue, OperatorClass, element_of, access_need, operand_need, unary_kind, class_of, operands_need, binary_kind, binary_notes, may_join, names_function, is_function_name, is_place, place_kind, place_notes, place_call_notes, value_call_kind, place_call_kind, keeps_kind, cast_kind, cast_notes, count, callee_notes, call_result, call_kind, may_spawn, spawn_wanted, spawn_kind, type_of, are_fine, notes_at, notes_of_all, kind_at, with_names, type_at, is_there, around, with_cast, all_with_cast, Receiver, of_parameter, Giving, one_giving, givings, all_givings, value_givings, front, back, none_some, one_some}, Grown.span_same, Lefts.{IsTypedIn, typed_itself}, Noted.{Clean, left, right, no_fault, behind_head, none, joined, unless, moved, referring}, Retyped.{Setting, cast_fine, count_same, fine_both, place_same}, Scoped.Scoped}
 use Rattle.sharc_names.specs.{Names.parameters_of, Needs.mismatch}
 use Rattle.sharc_names.specs.Kinds as kinds
 use Rattle.sharc_names.specs.Names as meaning
@@ -27,13 +27,10 @@ AreTypedIn w names list = AllByRecursion (IsTypedIn w.resolution (with_names w.f
 abbrev pub IsQuieter : Expression → Expression → Type 0
 IsQuieter e new = (called new ≡ called e) ⊎ (called new ≡ None)
 
-some_none : (x : ℕ) → Some x ≡ None → ⊥
-some_none x h = cc
-
 used_clean : (old new : Option ℕ) → (new ≡ old) ⊎ (new ≡ None) → Clean (used_call old) → Clean (used_call new)
 used_clean old None q h = none
-used_clean None (Some x) (inl same) h = absurd (some_none x same)
-used_clean None (Some x) (inr gone) h = absurd (some_none x gone)
+used_clean None (Some x) (inl same) h = absurd (none_some x (sym same))
+used_clean None (Some x) (inr gone) h = absurd (none_some x (sym gone))
 used_clean (Some y) (Some x) q h = absurd (no_fault _ _ _ h)
 
 base_clean : (b : Base) (e new : Expression) → IsQuieter e new → Clean (misfit_of b e) → Clean (misfit_of b new)
@@ -96,13 +93,7 @@ as_left σ _ h = h
 
 of_function : (b : Bool) (k : Kind) → cond b None (Some kinds.function) ≡ Some k → is_pointer k ≡ true → ⊥
 of_function true k is pointer = none_some k is
-  where
-    none_some : (j : Kind) → None ≡ Some j → ⊥
-    none_some j h = cc
-of_function false k is pointer = false≢true (ap is_pointer (same_some kinds.function k is) ∙ pointer)
-  where
-    same_some : (i j : Kind) → Some i ≡ Some j → i ≡ j
-    same_some i j h = cc
+of_function false k is pointer = false≢true (ap is_pointer (one_some kinds.function k is) ∙ pointer)
 
 meant : (m : Meaning) (k : Kind) → cond (is_main m) None (Some (kind_of m)) ≡ Some k → is_pointer k ≡ true → is_function m ≡ false
 meant (meaning.function n f) k is pointer = absurd (of_function (is_main (meaning.function n f)) k is pointer)

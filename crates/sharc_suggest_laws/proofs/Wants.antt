@@ -1,5 +1,5 @@
 -- What is expected at the cast is what was expected.
-use Rattle.sharc_suggest_laws.proofs.{Imports.{◌≡◌, ◌⊎◌, inl, inr, ℕ, zero, suc, ◌≤◌, ◌==◌, Bool, true, false, not, ◌&&◌, ◌||◌, cond, List, [], ◌∷◌, map, length, take, drop, Option, Some, None, option_map, is_some, is_none, slice_get, refl, ap, ap₂, sym, subst, ◌∙◌, eq-eqb, false≢true, and_parts, AllByRecursion, flat_map, Mode, Declaration, without_parentheses, Expression, identifier, cast, Arguments, no_arguments, argument, Function, span_of, Named, Entry, look_up, Recast, is_there, around, with_cast, all_with_cast, function_with_cast, type_at, recast_of, targets, inserted, assignment_with, is_dull, KeepsName, Resolution, named_at, function_at, functions_in, parameters_of, parameters_named, Cast, Finding, Names, expected, Assignment, is_named, names_of, names_in, names_in_all, names_read, parameter_names, taken_variable, PathReading, at_call, Targets, is_constant_named, constant_use, argument_use, lock_through, with_base, lock_for, read_lock, read, reading_through, declared_row, modes_of, Lock, Sharing, locked, sharing_of, is_field, variable_named, object_named, text_at, is_call_at, keeps_named, keeps, keeps_all, beyond, no_token as no_use, one_some as one_use}, Arguments.{nth, args_met, one_nth}, CallNames.{named_left, named_right}, Grown.span_same, Rows.{IsShifted, same_stretch}, RowsStay.{Frame, now, many, first_at, IsRowMoved, AreRowsMoved, IsClearOf, clear_moved, functions_same, use_same}, Stands.first_is, Expects.{no_modes, same_modes as one_modes}}
+use Rattle.sharc_suggest_laws.proofs.{Imports.{◌≡◌, ◌⊎◌, inl, inr, ℕ, zero, suc, ◌≤◌, ◌==◌, Bool, true, false, not, ◌&&◌, ◌||◌, cond, List, [], ◌∷◌, map, length, take, drop, Option, Some, None, option_map, is_some, is_none, slice_get, refl, ap, ap₂, sym, subst, ◌∙◌, eq-eqb, false≢true, and_parts, AllByRecursion, flat_map, Mode, Declaration, without_parentheses, Expression, identifier, cast, Arguments, no_arguments, argument, Function, span_of, Named, Entry, look_up, Recast, is_there, around, with_cast, all_with_cast, function_with_cast, type_at, recast_of, targets, inserted, assignment_with, is_dull, KeepsName, Resolution, named_at, function_at, functions_in, parameters_of, parameters_named, Cast, Finding, Names, expected, Assignment, is_named, names_of, names_in, names_in_all, names_read, parameter_names, taken_variable, PathReading, at_call, Targets, is_constant_named, constant_use, argument_use, lock_through, with_base, lock_for, read_lock, read, reading_through, declared_row, modes_of, Lock, Sharing, locked, sharing_of, is_field, variable_named, object_named, text_at, is_call_at, keeps_named, keeps, keeps_all, beyond, no_token as no_use, one_some as one_use, none_some, one_some}, Arguments.{nth, args_met, one_nth}, CallNames.{named_left, named_right}, Grown.span_same, Rows.{IsShifted, same_stretch}, RowsStay.{Frame, now, many, first_at, IsRowMoved, AreRowsMoved, IsClearOf, clear_moved, functions_same, use_same}, Stands.first_is}
 use Rattle.sharc_suggest.specs.Repairs.{is_free}
 
 -- ---- the modes of a row that was moved, where its lock paths are read alike
@@ -93,10 +93,10 @@ reads_alike m c frame scope (Some at) l good = through_by m c frame scope at l (
 
 pub left_wanted : (m : Assignment) (c : Cast) (frame : Frame m c) → first_at m c frame ≤ length m.modes → (scope : List Entry) (want : List Sharing) → keeps_all m.typed scope want ≡ true → (old new : Option Targets)
     → AreRowsMoved (first_at m c frame) (many c) old new → option_map (modes_of m) old ≡ Some want → option_map (modes_of (assignment_with c m)) new ≡ Some want
-left_wanted m c frame fits scope want kept None new moved is = absurd (no_modes want is)
+left_wanted m c frame fits scope want kept None new moved is = absurd (none_some want is)
 left_wanted m c frame fits scope want kept (Some old) None moved is = absurd moved
 left_wanted m c frame fits scope want kept (Some old) (Some new) moved is =
-    let same : modes_of m old ≡ want = one_modes (modes_of m old) want is in
+    let same : modes_of m old ≡ want = one_some (modes_of m old) want is in
     let are : AllByRecursion (IsKeeping m scope) (modes_of m old) = subst (AllByRecursion (IsKeeping m scope)) (sym same) (are_keeping m scope want kept) in
     ap Some (modes_moved m c frame fits (IsKeeping m scope) (reading_through moved.0) (reading_through moved.0) (reads_alike m c frame scope moved.0) old new moved.1 are ∙ same)
 
@@ -273,12 +273,12 @@ pub parameter_wanted : (m : Assignment) (c : Cast) (frame : Frame m c) → first
     → (left : List Declaration) → AreClearOf m left → (want : List Sharing)
     → ((z : ℕ) → is_named z (flat_map (parameter_names m (at_call ds all)) left) ≡ true → tells z ≡ true)
     → expected m ds all left ≡ Some want → expected (assignment_with c m) ds (all_with_cast (recast_of m.typed c) all) left ≡ Some want
-parameter_wanted m c frame fits tells ds all e at [] clear want told is = absurd (no_modes want is)
+parameter_wanted m c frame fits tells ds all e at [] clear want told is = absurd (none_some want is)
 parameter_wanted m c frame fits tells ds all e at (d ∷ rest) clear want told is =
     let how : PathReading = at_call ds all in
     let later : PathReading = at_call ds (all_with_cast (recast_of m.typed c) all) in
     let old : Targets = declared_row m.typed how d.name.site.token in
-    let same : modes_of m old ≡ want = one_modes (modes_of m old) want is in
+    let same : modes_of m old ≡ want = one_some (modes_of m old) want is in
     let of_first : (z : ℕ) → is_named z (names_in_all m.typed want) ≡ true → tells z ≡ true =
     λ z h. told z
     (named_left z (parameter_names m how d) (flat_map (parameter_names m how) rest)

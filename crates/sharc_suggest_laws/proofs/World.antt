@@ -1,5 +1,5 @@
 -- What the laws of typed programs say of one: what has a type is found, and what is given to what is known.
-use Rattle.sharc_suggest_laws.proofs.{Imports.{◌≡◌, ℕ, ◌==◌, Bool, true, false, cond, List, [], ◌∷◌, ◌++◌, Some, None, bytes_eq, refl, subst, eqb-true, AllByRecursion, Declaration, GlobalDefinition, StructDefinition, IsLow, in_function, IsPlaced, Expression, Function, Item, Scope, field_of, Note, Named, Role, declared, result_of, sizes_notes, heads_notes, no_heads, file_scope, items_notes, main_missing, notes_about, Resolution, IsResolved, structs_in, globals_in, functions_in, declarations_in, declared_at, named_at, kind_at, locals_in_all, IsFair, function_transfers, HasType, struct_named, IsItself, NameThemselves, IsFound, EachTypeFound, EachNameOnce, OnlyNames, EachNamesItself, MeetsConstraints, OneType, AllFair, front, back, at_place, together}, Folded.IsOwnAt, Given.{IsKnown, IsOwnLocal, IsWellFunction}, Holders.{IsCastOf, IsLocalOf, IsDeclaredAs, HasFields, InBody, IsHeldBy, held_by}, Noted.clean_from, Owned.all_own, Siblings.{IsTrueOf, AreTrueOf, true_from, HasSiblings, AreSiblings, all_siblings}, Targets.IsKnownProgram}
+use Rattle.sharc_suggest_laws.proofs.{Imports.{◌≡◌, ℕ, ◌==◌, Bool, true, false, cond, List, [], ◌∷◌, ◌++◌, Some, bytes_eq, refl, subst, eqb-true, AllByRecursion, Declaration, GlobalDefinition, StructDefinition, IsLow, in_function, IsPlaced, Expression, Function, Item, Scope, field_of, Note, Named, Role, declared, result_of, sizes_notes, heads_notes, no_heads, file_scope, items_notes, main_missing, notes_about, Resolution, IsResolved, structs_in, globals_in, functions_in, declarations_in, declared_at, named_at, kind_at, locals_in_all, IsFair, function_transfers, HasType, struct_named, IsItself, NameThemselves, IsFound, EachTypeFound, EachNameOnce, OnlyNames, EachNamesItself, MeetsConstraints, OneType, AllFair, front, back, at_place, together, none_some, one_some}, Folded.IsOwnAt, Given.{IsKnown, IsOwnLocal, IsWellFunction}, Holders.{IsCastOf, IsLocalOf, IsDeclaredAs, HasFields, InBody, IsHeldBy, held_by}, Noted.clean_from, Owned.all_own, Siblings.{IsTrueOf, AreTrueOf, true_from, HasSiblings, AreSiblings, all_siblings}, Targets.IsKnownProgram}
 
 -- ---- the laws
 
@@ -15,45 +15,27 @@ pub record TypedLaws : Type 0 where
 -- ---- of what is found in a list
 
 declared_there : (P : Declaration → Type 0) (ds : List Declaration) (token : ℕ) (d : Declaration) → AllByRecursion P ds → declared_at ds token ≡ Some d → (d.name.site.token ≡ token) × P d
-declared_there P [] token d h is = absurd (no_declaration d is)
-  where
-    no_declaration : (d : Declaration) → None ≡ Some d → ⊥
-    no_declaration d h = cc
+declared_there P [] token d h is = absurd (none_some d is)
 declared_there P (x ∷ rest) token d h is = by (x.name.site.token == token) refl is (declared_there P rest token d h.1)
   where
-    one_declaration : (a b : Declaration) → Some a ≡ Some b → a ≡ b
-    one_declaration a b h = cc
-
     by : (b : Bool) → x.name.site.token == token ≡ b → cond b (Some x) (declared_at rest token) ≡ Some d → (declared_at rest token ≡ Some d → (d.name.site.token ≡ token) × P d) → (d.name.site.token ≡ token) × P d
-    by true same at more = subst (λ (y : Declaration). (y.name.site.token ≡ token) × P y) (one_declaration x d at) (eqb-true x.name.site.token token same, h.0)
+    by true same at more = subst (λ (y : Declaration). (y.name.site.token ≡ token) × P y) (one_some x d at) (eqb-true x.name.site.token token same, h.0)
     by false other at more = more at
 
 struct_there : (P : StructDefinition → Type 0) (l : List StructDefinition) (name : List ℕ) (s : StructDefinition) → AllByRecursion P l → struct_named l name ≡ Some s → P s
-struct_there P [] name s h is = absurd (no_struct s is)
-  where
-    no_struct : (s : StructDefinition) → None ≡ Some s → ⊥
-    no_struct s h = cc
+struct_there P [] name s h is = absurd (none_some s is)
 struct_there P (x ∷ rest) name s h is = by (bytes_eq x.name.text name) is (struct_there P rest name s h.1)
   where
-    one_struct : (a b : StructDefinition) → Some a ≡ Some b → a ≡ b
-    one_struct a b h = cc
-
     by : (b : Bool) → cond b (Some x) (struct_named rest name) ≡ Some s → (struct_named rest name ≡ Some s → P s) → P s
-    by true at more = subst P (one_struct x s at) h.0
+    by true at more = subst P (one_some x s at) h.0
     by false at more = more at
 
 field_there : (P : Declaration → Type 0) (ds : List Declaration) (name : List ℕ) (d : Declaration) → AllByRecursion P ds → field_of ds name ≡ Some d → P d
-field_there P [] name d h is = absurd (no_declaration d is)
-  where
-    no_declaration : (d : Declaration) → None ≡ Some d → ⊥
-    no_declaration d h = cc
+field_there P [] name d h is = absurd (none_some d is)
 field_there P (x ∷ rest) name d h is = by (bytes_eq x.name.text name) is (field_there P rest name d h.1)
   where
-    one_declaration : (a b : Declaration) → Some a ≡ Some b → a ≡ b
-    one_declaration a b h = cc
-
     by : (b : Bool) → cond b (Some x) (field_of rest name) ≡ Some d → (field_of rest name ≡ Some d → P d) → P d
-    by true at more = subst P (one_declaration x d at) h.0
+    by true at more = subst P (one_some x d at) h.0
     by false at more = more at
 
 -- ---- the program
