@@ -4,21 +4,6 @@ use Rattle.sharc_flatten.proofs.{Imports.{◌≡◌, ℕ, ◌+◌, ◌<◌, ◌�
 -- an operation without a spot has no texts
 pub same_texts : (o : Op) (a b : Text) → spot_in o ≡ None → o ≡ with_texts a b o
 same_texts Op.Enter a b h = refl
-same_texts (Op.Constant i v) a b h = refl
-same_texts (Op.Move i from) a b h = refl
-same_texts (Op.Complement i v) a b h = refl
-same_texts (Op.IsFalse i v) a b h = refl
-same_texts (Op.SameReference i v w) a b h = refl
-same_texts (Op.Skip n) a b h = refl
-same_texts (Op.SkipIfZero i n) a b h = refl
-same_texts (Op.SkipIfNull r n) a b h = refl
-same_texts (Op.Jump to) a b h = refl
-same_texts Op.BlockEnd a b h = refl
-same_texts (Op.Null r) a b h = refl
-same_texts (Op.Local r x) a b h = refl
-same_texts (Op.MoveReference r from) a b h = refl
-same_texts (Op.Pop r) a b h = refl
-same_texts (Op.Settle x from) a b h = refl
 same_texts _ a b h = cc
 
 pub none_laid : (r : Resolution) (bytes : List ℕ) (o : Op) (a : Text) → spot_in o ≡ None → IsLaid r bytes o o

@@ -73,23 +73,7 @@ module _ (n : ℕ) (c : CellAt) (e : SourceEvent) where
 
   to_write : (a : Act) → e.act ≡ a → changes c e ≡ true → refers n (value_left a) ≡ true → IsWrite c a
   to_write (Act.Write to mode v) is h k = by_write to mode v is h
-  to_write (Act.Read d mode) is h k = no_write k
-  to_write (Act.New cells elements mode) is h k = no_write k
-  to_write (Act.Take what kind) is h k = no_write k
-  to_write (Act.Give r mode) is h k = no_write k
-  to_write (Act.Freed r) is h k = no_write k
-  to_write (Act.Lock d) is h k = no_write k
-  to_write (Act.Unlock d) is h k = no_write k
-  to_write (Act.Spawn f v) is h k = no_write k
-  to_write (Act.Started v) is h k = no_write k
-  to_write (Act.Join v) is h k = no_write k
-  to_write (Act.Print v) is h k = no_write k
-  to_write Act.Return is h k = no_write k
-  to_write Act.Gone is h k = no_write k
-  to_write (Act.Enter d) is h k = no_write k
-  to_write (Act.Woken d) is h k = no_write k
-  to_write (Act.Signal d) is h k = no_write k
-  to_write (Act.Broadcast d) is h k = no_write k
+  to_write _ is h k = no_write k
 
 -- ---- a Lock of a mutex, and a Spawn
 
@@ -100,23 +84,7 @@ record IsLock (c : CellAt) (a : Act) : Type 0 where
 
 to_lock : (c : CellAt) (a : Act) → is_cell c (locked_by a) ≡ true → IsLock c a
 to_lock c (Act.Lock d) h = record { to = d; is = refl; same = h }
-to_lock c (Act.Write to mode v) h = absurd (cc)
-to_lock c (Act.Read d mode) h = absurd (cc)
-to_lock c (Act.New cells elements mode) h = absurd (cc)
-to_lock c (Act.Take what kind) h = absurd (cc)
-to_lock c (Act.Give r mode) h = absurd (cc)
-to_lock c (Act.Freed r) h = absurd (cc)
-to_lock c (Act.Unlock d) h = absurd (cc)
-to_lock c (Act.Spawn f v) h = absurd (cc)
-to_lock c (Act.Started v) h = absurd (cc)
-to_lock c (Act.Join v) h = absurd (cc)
-to_lock c (Act.Print v) h = absurd (cc)
-to_lock c Act.Return h = absurd (cc)
-to_lock c Act.Gone h = absurd (cc)
-to_lock c (Act.Enter d) h = absurd (cc)
-to_lock c (Act.Woken d) h = absurd (cc)
-to_lock c (Act.Signal d) h = absurd (cc)
-to_lock c (Act.Broadcast d) h = absurd (cc)
+to_lock c _ h = absurd (cc)
 
 record IsSpawnAct (a : Act) : Type 0 where
   function : ℕ
@@ -125,23 +93,7 @@ record IsSpawnAct (a : Act) : Type 0 where
 
 to_spawn : (a : Act) → is_spawn a ≡ true → IsSpawnAct a
 to_spawn (Act.Spawn f v) h = record { function = f; argument = v; is = refl }
-to_spawn (Act.Lock d) h = absurd (cc)
-to_spawn (Act.Write to mode v) h = absurd (cc)
-to_spawn (Act.Read d mode) h = absurd (cc)
-to_spawn (Act.New cells elements mode) h = absurd (cc)
-to_spawn (Act.Take what kind) h = absurd (cc)
-to_spawn (Act.Give r mode) h = absurd (cc)
-to_spawn (Act.Freed r) h = absurd (cc)
-to_spawn (Act.Unlock d) h = absurd (cc)
-to_spawn (Act.Started v) h = absurd (cc)
-to_spawn (Act.Join v) h = absurd (cc)
-to_spawn (Act.Print v) h = absurd (cc)
-to_spawn Act.Return h = absurd (cc)
-to_spawn Act.Gone h = absurd (cc)
-to_spawn (Act.Enter d) h = absurd (cc)
-to_spawn (Act.Woken d) h = absurd (cc)
-to_spawn (Act.Signal d) h = absurd (cc)
-to_spawn (Act.Broadcast d) h = absurd (cc)
+to_spawn _ h = absurd (cc)
 
 natural_is : (thread : ℕ) (v : ℤ) → is_natural thread v ≡ true → v ≡ pos thread
 natural_is thread (pos k) h = ap pos (sym (eqb-true thread k h))

@@ -54,21 +54,7 @@ module _ (fuel : ℕ) (m : Assignment) (R : List SourceEvent) (n : ℕ) where
     act_last e after (Act.Write c mode v) is h i = cell_last e after c mode v is h i
     act_last e after (Act.Lock c) is h i = mutex_last e after c is h i
     act_last e after (Act.Spawn f v) is h i = argument_last e after f v is e.answer refl h i
-    act_last e after (Act.Read c mode) is h i = absurd i
-    act_last e after (Act.New cells elements mode) is h i = absurd i
-    act_last e after (Act.Take taken kind) is h i = absurd i
-    act_last e after (Act.Give r mode) is h i = absurd i
-    act_last e after (Act.Freed r) is h i = absurd i
-    act_last e after (Act.Unlock c) is h i = absurd i
-    act_last e after (Act.Started v) is h i = absurd i
-    act_last e after (Act.Join v) is h i = absurd i
-    act_last e after (Act.Print v) is h i = absurd i
-    act_last e after Act.Return is h i = absurd i
-    act_last e after Act.Gone is h i = absurd i
-    act_last e after (Act.Enter c) is h i = absurd i
-    act_last e after (Act.Woken c) is h i = absurd i
-    act_last e after (Act.Signal c) is h i = absurd i
-    act_last e after (Act.Broadcast c) is h i = absurd i
+    act_last e after _ is h i = absurd i
 
     all_last : (e : SourceEvent) (after : List SourceEvent) (h : Holder) → IsListed h (holders_at fuel m R n e after) → IsLast e after h
     all_last e after h i = by_part (in_either h (by_act m.typed R n e after e.act) (thread_at fuel m R n e.thread after) i)
@@ -87,21 +73,7 @@ module _ (fuel : ℕ) (m : Assignment) (R : List SourceEvent) (n : ℕ) where
         by_answer : (a : ℤ) → AreDistinct (argument_at m.typed R n e after a)
         by_answer (pos thread) = one_distinct _ (InArgument thread)
         by_answer (negsuc k) = tt
-    act_distinct e after (Act.Read c mode) = tt
-    act_distinct e after (Act.New cells elements mode) = tt
-    act_distinct e after (Act.Take taken kind) = tt
-    act_distinct e after (Act.Give r mode) = tt
-    act_distinct e after (Act.Freed r) = tt
-    act_distinct e after (Act.Unlock c) = tt
-    act_distinct e after (Act.Started v) = tt
-    act_distinct e after (Act.Join v) = tt
-    act_distinct e after (Act.Print v) = tt
-    act_distinct e after Act.Return = tt
-    act_distinct e after Act.Gone = tt
-    act_distinct e after (Act.Enter c) = tt
-    act_distinct e after (Act.Woken c) = tt
-    act_distinct e after (Act.Signal c) = tt
-    act_distinct e after (Act.Broadcast c) = tt
+    act_distinct e after _ = tt
 
     thread_distinct : (thread : ℕ) (after : List SourceEvent) → AreDistinct (thread_at fuel m R n thread after)
     thread_distinct thread after = by_case (list_any (is_of thread) after)
@@ -135,21 +107,7 @@ module _ (fuel : ℕ) (m : Assignment) (R : List SourceEvent) (n : ℕ) where
         by_answer : (a : ℤ) → IsListed h (argument_at m.typed R n e after a) → is_thread h ≡ false
         by_answer (pos thread) j = no_thread _ (InArgument thread) h refl j
         by_answer (negsuc k) j = absurd j
-    act_other e after (Act.Read c mode) h i = absurd i
-    act_other e after (Act.New cells elements mode) h i = absurd i
-    act_other e after (Act.Take taken kind) h i = absurd i
-    act_other e after (Act.Give r mode) h i = absurd i
-    act_other e after (Act.Freed r) h i = absurd i
-    act_other e after (Act.Unlock c) h i = absurd i
-    act_other e after (Act.Started v) h i = absurd i
-    act_other e after (Act.Join v) h i = absurd i
-    act_other e after (Act.Print v) h i = absurd i
-    act_other e after Act.Return h i = absurd i
-    act_other e after Act.Gone h i = absurd i
-    act_other e after (Act.Enter c) h i = absurd i
-    act_other e after (Act.Woken c) h i = absurd i
-    act_other e after (Act.Signal c) h i = absurd i
-    act_other e after (Act.Broadcast c) h i = absurd i
+    act_other e after _ h i = absurd i
 
     place_distinct : (e : SourceEvent) (after : List SourceEvent) → AreDistinct (holders_at fuel m R n e after)
     place_distinct e after = both_distinct (by_act m.typed R n e after e.act) (thread_at fuel m R n e.thread after) (act_distinct e after e.act) (thread_distinct e.thread after)

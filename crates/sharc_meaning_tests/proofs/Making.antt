@@ -43,8 +43,6 @@ module _ (r : Resolution) (token cell : ℕ) where
 
   mutual
     none : (e : Expression) → makes (transfers r e) ≡ false
-    none (identifier s i) = refl
-    none (constant s c) = refl
     none (parentheses s a) = none a
     none (call s f all) = none_both (passed (parameters_named r (named_at r f.site.token)) all) (argument_transfers r all) (passed_none (parameters_named r (named_at r f.site.token)) all) (none_all all)
     none (spawn s f a) = none_both (passed (parameters_named r (named_at r f.site.token)) (argument a no_arguments)) (transfers r a) (passed_none (parameters_named r (named_at r f.site.token)) (argument a no_arguments)) (none a)
@@ -55,6 +53,7 @@ module _ (r : Resolution) (token cell : ℕ) where
     none (field s a w n) = none a
     none (unary s o a) = none a
     none (binary s o at a b) = none_both (transfers r a) (transfers r b) (none a) (none b)
+    none _ = refl
 
     none_all : (all : Arguments) → makes (argument_transfers r all) ≡ false
     none_all no_arguments = refl

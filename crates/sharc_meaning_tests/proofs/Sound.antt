@@ -87,21 +87,7 @@ module _ (fuel : ℕ) (m : Assignment) (R : List SourceEvent) (n : ℕ) where
       act_sound before e after stands (Act.Write c mode v) is h i = cell_sound c after h i
       act_sound before e after stands (Act.Lock c) is h i = mutex_sound same before e after c stands is h i
       act_sound before e after stands (Act.Spawn f v) is h i = argument_sound before e after f v stands is e.answer refl h i
-      act_sound before e after stands (Act.Read c mode) is h i = absurd i
-      act_sound before e after stands (Act.New cells elements mode) is h i = absurd i
-      act_sound before e after stands (Act.Take taken kind) is h i = absurd i
-      act_sound before e after stands (Act.Give r mode) is h i = absurd i
-      act_sound before e after stands (Act.Freed r) is h i = absurd i
-      act_sound before e after stands (Act.Unlock c) is h i = absurd i
-      act_sound before e after stands (Act.Started v) is h i = absurd i
-      act_sound before e after stands (Act.Join v) is h i = absurd i
-      act_sound before e after stands (Act.Print v) is h i = absurd i
-      act_sound before e after stands Act.Return is h i = absurd i
-      act_sound before e after stands Act.Gone is h i = absurd i
-      act_sound before e after stands (Act.Enter c) is h i = absurd i
-      act_sound before e after stands (Act.Woken c) is h i = absurd i
-      act_sound before e after stands (Act.Signal c) is h i = absurd i
-      act_sound before e after stands (Act.Broadcast c) is h i = absurd i
+      act_sound before e after stands _ is h i = absurd i
 
       pub all_sound : (h : Holder) → IsListed h (holders fuel m R n) → Means h
       all_sound h i =
