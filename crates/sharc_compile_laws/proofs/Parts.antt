@@ -1,5 +1,5 @@
 -- The parts of the code of an expression: an access, a test, an operator, a call.
-use Rattle.sharc_compile_laws.proofs.{Imports.{◌≡◌, ⊎_elim, ℕ, ◌+◌, ◌<◌, ◌≤◌, ◌==◌, ◌&&◌, ◌||◌, eqb-true, Bool, true, false, cond, List, [], ◌∷◌, ◌++◌, length, refl, ap, ◌∙◌, subst, arith, length-append, append_assoc, Option, Some, None, codes, bytes_eq, false≢true, cases_eq, Base, Site, BinaryOperator, NotEqual, ValueCall, Join, Print, Arguments, Kind, object, long, is_long, is_integral, is_integer, is_pointer, promoted, common, Use, Cell, Register, Int, Reference, Sharing, is_reference, Op, Spot, IsWide, Flat, Lvalue, Context, slot_kind, ref_count, register_of, number_in, at_site, Target, variable, in_global, in_global_at, in_object, in_object_at, width_of, has_base, base_width, cell_of, guard_field, guard_code, drop_base, settle_base, copy_code, cell_value_code, value_code, settle_code, cell_store_code, store_code, cell_take_code, take_code, bounds_code, pointee_code, width_code, drop_code, truth_code, differ_code, compare_code, logical_code, either_code, wait_code, condition_code, with_words, argument_words, spawn_code, value_call_code, unlocked_code, passed_code, first_cell_of, is_cell, free, full, Slots, with_slot, with_moved, cell_slot, Enters, Level}, Located.{IsIn, located, width}, Pieces.{held, step}, Slots.{AreFit, fit_same, fit_through, below, below_free, fit_below, none_cleared, with_same, with_other, below_more, popped, pushed, settled, taken}}
+use Rattle.sharc_compile_laws.proofs.{Imports.{◌≡◌, ⊎_elim, ℕ, ◌+◌, ◌<◌, ◌≤◌, ◌==◌, ◌&&◌, ◌||◌, eqb-true, Bool, true, false, cond, List, [], ◌∷◌, ◌++◌, length, refl, ap, ◌∙◌, subst, arith, length-append, append_assoc, Option, Some, None, codes, bytes_eq, false≢true, cases_eq, Base, Site, BinaryOperator, NotEqual, ValueCall, Join, Print, Arguments, Kind, object, long, is_long, is_integral, is_integer, promoted, common, Use, Cell, Register, Int, Reference, Sharing, is_reference, Op, Spot, IsWide, Flat, Lvalue, Context, slot_kind, ref_count, register_of, number_in, at_site, Target, variable, in_global, in_global_at, in_object, in_object_at, width_of, has_base, base_width, cell_of, guard_field, guard_code, drop_base, settle_base, copy_code, cell_value_code, value_code, settle_code, cell_store_code, store_code, cell_take_code, take_code, bounds_code, pointee_code, width_code, drop_code, truth_code, differ_code, compare_code, logical_code, either_code, wait_code, condition_code, with_words, argument_words, spawn_code, value_call_code, unlocked_code, passed_code, first_cell_of, is_cell, free, full, Slots, with_slot, with_moved, cell_slot, Enters, Level}, Located.{IsIn, located, width}, Pieces.{held, step}, Slots.{AreFit, fit_same, fit_through, below, below_free, fit_below, none_cleared, with_same, with_other, below_more, popped, pushed, settled, taken}}
 use Rattle.sharc_flat_lemmas.proofs.Flow as flow
 use Rattle.sharc_names.specs.Kinds.{int}
 use Rattle.sharc_names.specs.Kinds as kinds
@@ -254,21 +254,12 @@ module _ (flat : Flat) (owner : ℕ → ℕ) (gives : ℕ → Bool) (f : ℕ) (D
       before (below (r + 1)) (Op.ChkNull r spot) (o ∷ Op.Pop r ∷ []) (below r) (keeps (below (r + 1)) (Op.ChkNull r spot) (λ table pc n. n)) (before (below (r + 1)) o (Op.Pop r ∷ []) (below r) p (pop_at r))
 
   pub conditions : (r : ℕ) (spot : Spot) (name : List ℕ) (all : Arguments) → B (r + cond (bytes_eq name (codes "wait")) 2 1) (condition_code r spot name all) r
-  conditions r spot name all = by (bytes_eq name (codes "wait")) (bytes_eq name (codes "signal"))
+  conditions r spot name all = by (bytes_eq name (codes "wait")) _ _ (wait_over r spot (with_words spot (argument_words 0 all)) (with_words spot (argument_words 1 all)))
+      (choose (below (r + 1)) (bytes_eq name (codes "signal")) _ _ (below r) (waked r _ (keeps (below (r + 1)) _ (λ table pc n. n)) spot) (waked r _ (keeps (below (r + 1)) _ (λ table pc n. n)) spot))
     where
-      signalled : B (r + 1) (Op.ChkNull r spot ∷ Op.CondSignal (first_cell_of r) spot ∷ Op.Pop r ∷ []) r
-      signalled = waked r (Op.CondSignal (first_cell_of r) spot) (keeps (below (r + 1)) (Op.CondSignal (first_cell_of r) spot) (λ table pc n. n)) spot
-
-      broadcasted : B (r + 1) (Op.ChkNull r spot ∷ Op.CondBroadcast (first_cell_of r) spot ∷ Op.Pop r ∷ []) r
-      broadcasted = waked r (Op.CondBroadcast (first_cell_of r) spot) (keeps (below (r + 1)) (Op.CondBroadcast (first_cell_of r) spot) (λ table pc n. n)) spot
-
-      by : (w g : Bool)
-          → B (r + cond w 2 1)
-          (cond w (wait_code r spot (with_words spot (argument_words 0 all)) (with_words spot (argument_words 1 all)))
-          (cond g (Op.ChkNull r spot ∷ Op.CondSignal (first_cell_of r) spot ∷ Op.Pop r ∷ []) (Op.ChkNull r spot ∷ Op.CondBroadcast (first_cell_of r) spot ∷ Op.Pop r ∷ []))) r
-      by true g = wait_over r spot (with_words spot (argument_words 0 all)) (with_words spot (argument_words 1 all))
-      by false true = signalled
-      by false false = broadcasted
+      by : (w : Bool) (xs ys : List Op) → B (r + 2) xs r → B (r + 1) ys r → B (r + cond w 2 1) (cond w xs ys) r
+      by true xs ys p q = p
+      by false xs ys p q = q
 
   -- ---- threads, and calls of values and of places
   pub spawns : (b : Bool) (i r g : ℕ) (spot : Spot) → B (r + width b) (spawn_code b i r g spot) r

@@ -265,7 +265,7 @@ module _ (flat : Flat) where
   conditions : (i r : ℕ) (spot : Spot) (name : List ℕ) (all : Arguments) → R i (condition_code r spot name all)
   conditions i r spot name all =
       choose_r i (bytes_eq name (codes "wait")) _ _ (waits i r spot (with_words spot (argument_words 0 all)) (with_words spot (argument_words 1 all)))
-      (choose_r i (bytes_eq name (codes "signal")) _ _ (waked i r (Op.CondSignal _ spot) spot (plain i (Op.CondSignal _ spot) (λ table pc s f. f) (λ m. tt))) (waked i r (Op.CondBroadcast _ spot) spot (plain i (Op.CondBroadcast _ spot) (λ table pc s f. f) (λ m. tt))))
+      (choose_r i (bytes_eq name (codes "signal")) _ _ (waked i r _ spot (plain i _ (λ table pc s f. f) (λ m. tt))) (waked i r _ spot (plain i _ (λ table pc s f. f) (λ m. tt))))
 
   calls : (i r : ℕ) (spot : Spot) (n : Named) (name : List ℕ) (all : Arguments) → R i (called_code i r spot n name all)
   calls i r spot (Named.Function k) name all = λ s low. one s (Op.Call k i r spot) s (λ table pc d fit. record { next = (d k, λ x y. let z = fit x y in (z, low x z)); stands = λ m h. tt })
