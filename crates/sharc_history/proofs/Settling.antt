@@ -6,7 +6,7 @@ use Rattle.sharc_tree.specs.declared.event.Act.TheVariants as acts
 use Rattle.sharc_tree.specs.declared.event.Taken.TheVariants as takens
 use Rattle.sharc_heap.specs.{State.NewView, declared.stage.NewStage.NewStage, declared.stage.NewStage.TheVariants.Length}
 use Rattle.sharc_locks.specs.Waiters.{lowest_of, waits_in}
-use Rattle.sharc_code.specs.{declared.code.Code.Code, declared.code.PlaceMode.PlaceMode, declared.code.PlaceMode.TheVariants.{Private, Readonly, Racy, Dynamic, LockedGlobal, LockedSibling, LockedThrough, LockedLoaded}, declared.instr.Cell.Cell, declared.instr.Cell.TheVariants.{Global, GlobalAt, Object, ObjectAt}, declared.instr.Instr.Instr, declared.instr.Instr.TheVariants.{Load, Store, LoadRef, Exchange, New, TakeCell, TakeLocal, Give, Free, Lock, Unlock, Spawn, Start, Exit, CondEnter, CondWait, CondSignal, CondBroadcast}, declared.instr.Register.Register, declared.state.Stage.Stage, declared.state.Stage.TheVariants.{Makes, Uncounts, Begins, Enters, Withdraws, WithdrawsFrom, Leaves, Wakes}, Machine.{Machine, instr_at, int, ref}, Says.{access, argument_of, cell_at, elements_in, event, event_at, in_exit, in_free, in_new, in_signal, in_spawn, in_start, kind_of, made_cell, mode_of, new_event, nobody, of_argument, place_at, reference, said, says, speaks_of, take_local}, ThreadLaws.settled}
+use Rattle.sharc_code.specs.{declared.code.Code.Code, declared.code.PlaceMode.PlaceMode, declared.code.PlaceMode.TheVariants.LockedLoaded, declared.instr.Cell.Cell, declared.instr.Cell.TheVariants.Object, declared.instr.Instr.Instr, declared.instr.Instr.TheVariants.{Load, Store, LoadRef, Exchange, New, TakeCell, TakeLocal, Give, Free, Lock, Unlock, Spawn, Start, Exit, CondEnter, CondWait, CondSignal, CondBroadcast}, declared.instr.Register.Register, declared.state.Stage.Stage, declared.state.Stage.TheVariants.{Makes, Uncounts, Begins, Enters, Leaves, Wakes}, Machine.{Machine, instr_at, int, ref}, Says.{access, argument_of, cell_at, elements_in, event, event_at, in_exit, in_free, in_new, in_signal, in_spawn, in_start, kind_of, made_cell, mode_of, new_event, nobody, of_argument, place_at, reference, said, says, speaks_of, take_local}, ThreadLaws.settled}
 use Rattle.sharc_code.specs.declared.instr.Register.TheVariants as registers
 
 module _ (code : Code) (m : Machine) where
@@ -14,20 +14,12 @@ module _ (code : Code) (m : Machine) where
   n = settled m
 
   cell_settled : (c : Cell) → cell_at code n c ≡ cell_at code m c
-  cell_settled (Global global cell) = refl
-  cell_settled (GlobalAt global r) = refl
   cell_settled (Object r cell) = refl
-  cell_settled (ObjectAt r at) = refl
+  cell_settled _ = refl
 
   mode_settled : (cell : CellAt) (mode : PlaceMode) → mode_of code n cell mode ≡ mode_of code m cell mode
-  mode_settled cell Private = refl
-  mode_settled cell Readonly = refl
-  mode_settled cell Racy = refl
-  mode_settled cell Dynamic = refl
-  mode_settled cell (LockedGlobal global place) = refl
-  mode_settled cell (LockedSibling field mutex) = refl
-  mode_settled cell (LockedThrough r place) = refl
   mode_settled cell LockedLoaded = refl
+  mode_settled cell _ = refl
 
   access_settled : (site : ℕ) (cell : Cell) (answer : ℤ) (of : CellAt → CellMode → Act) → access code n site cell answer of ≡ access code m site cell answer of
   access_settled site cell answer of =
@@ -69,8 +61,6 @@ module _ (code : Code) (m : Machine) where
   start_settled found elements _ = refl
 
   exit_settled : (stage : Stage) → in_exit code n stage ≡ in_exit code m stage
-  exit_settled (Withdraws row) = refl
-  exit_settled (WithdrawsFrom row seen) = refl
   exit_settled Leaves = refl
   exit_settled _ = refl
 

@@ -1,26 +1,23 @@
 -- Turns that tell nothing: those that ask for no step, and failed tries.
-use Rattle.std.proofs.Common.{◌≡◌, ℕ, zero, suc, ◌==◌, ◌||◌, Bool, true, false, nat_lt, Option, Some, None, if◌then◌else◌, refl, sym, ap, ◌∙◌}
+use Rattle.std.proofs.Common.{◌≡◌, ℕ, zero, suc, ◌==◌, ◌||◌, Bool, true, false, nat_lt, Option, None, if◌then◌else◌, refl, sym, ap, ◌∙◌}
 use Rattle.std.specs.Prelude.{ℤ, pos, negsuc}
 use Rattle.sharc_tree.specs.declared.trap.Trap.TheVariants as traps
 use Rattle.sharc_tree.specs.declared.event.SourceEvent.{SourceEvent}
-use Rattle.sharc_word.specs.{declared.step.TheConstants.THREADS, declared.step.WordStep.WordStep}
+use Rattle.sharc_word.specs.declared.step.TheConstants.{THREADS}
 use Rattle.sharc_word.specs.declared.step.WordOp.TheVariants as ops
 use Rattle.sharc_heap.specs.{State.NewView, Stages.turn_of_stage, declared.stage.NewStage.NewStage, declared.stage.NewStage.TheVariants.Length}
 use Rattle.sharc_locks.specs.Waiters.{waits_in}
-use Rattle.sharc_code.specs.{declared.code.Code.Code, declared.code.Layout.Layout, declared.shape.Shape.Shape, declared.instr.Cell.Cell, declared.instr.Register.Register, declared.instr.Instr.Instr, declared.instr.Instr.TheVariants.{Load, Store, LoadRef, Exchange, New, TakeCell, TakeLocal, Give, Free, Lock, Unlock, Spawn, Join, Print, Start, Exit, CondEnter, CondWait, CondSignal, CondBroadcast}, declared.state.Stage.Stage, declared.state.Stage.TheVariants.{Makes, Uncounts, Begins, Enters, Withdraws, WithdrawsFrom, Wakes}, declared.state.TurnState.TheVariants.Tries, Layout.state_word, Machine.{Machine, Turn, Local, Asks, act, instr_at, step_of, int, ref, word, elements_of, test, goes, move_ref, new, asks_new, free, layout_at, spawn, start, exit, signal, fails, trapped, joined, join}, Outcomes.{ComesOut, MayComeOut, TurnOutcome, TurnsComeOut, is_trying, state_after}, Path.{turn, after, asked_by}, Says.{says, said, take_local, new_event, in_new, in_free, in_spawn, in_start, in_exit, in_signal}}
+use Rattle.sharc_code.specs.{declared.code.Code.Code, declared.code.Layout.Layout, declared.shape.Shape.Shape, declared.instr.Cell.Cell, declared.instr.Register.Register, declared.instr.Instr.Instr, declared.instr.Instr.TheVariants.{Load, New, TakeLocal, Free, Lock, Spawn, Join, Start, Exit, CondWait, CondSignal}, declared.state.Stage.Stage, declared.state.Stage.TheVariants.{Makes, Uncounts, Begins, Enters, Withdraws, Wakes}, declared.state.TurnState.TheVariants.Tries, Layout.state_word, Machine.{Machine, Turn, Local, Asks, act, instr_at, step_of, int, ref, word, elements_of, test, goes, move_ref, new, asks_new, free, layout_at, spawn, start, exit, signal, fails, trapped, joined, join}, Outcomes.{ComesOut, MayComeOut, TurnOutcome, TurnsComeOut, is_trying, state_after}, Path.{turn, after, asked_by}, Says.{says, said, take_local, new_event, in_new, in_free, in_spawn, in_start, in_exit, in_signal}}
 use Rattle.sharc_schedule.specs.Schedule.{is_try}
 
 -- ---- turns that ask for no step
-no_step : {A : Type 0} (step : WordStep) → Some step ≡ None → A
-no_step step h = absurd (cc)
-
 module _ (code : Code) (s : Shape) (m : Machine) (elements : ℕ) where
   take_silent : (n site : ℕ) (x : Machine) → asked_by (test s n x) ≡ None → take_local code m site n elements ≡ None
   take_silent zero site x h = refl
-  take_silent (suc n) site x h = no_step _ h
+  take_silent (suc n) site x h = cc
 
   new_silent : (stage : NewStage) (state : NewView) (r cells site : ℕ) → asked_by (asks_new m r site state (turn_of_stage state.arguments stage)) ≡ None → new_event code m site cells state stage ≡ None
-  new_silent (Length header) state r cells site h = no_step _ h
+  new_silent (Length header) state r cells site h = cc
   new_silent _ state r cells site h = refl
 
   made_silent : (stage : Stage) (r count cells site : ℕ) → asked_by (new s m r count cells site stage) ≡ None → in_new code m site cells stage ≡ None
@@ -28,48 +25,34 @@ module _ (code : Code) (s : Shape) (m : Machine) (elements : ℕ) where
   made_silent _ r count cells site h = refl
 
   free_silent : (stage : Stage) (r site : ℕ) (l : Layout) → asked_by (free code s m r l stage) ≡ None → in_free code m r site elements stage ≡ None
-  free_silent (Uncounts all) r site l h = no_step _ h
+  free_silent (Uncounts all) r site l h = cc
   free_silent _ r site l h = refl
 
   spawn_silent : (stage : Stage) (r function : ℕ) (from : Register) (site : ℕ) → asked_by (spawn m r function from site stage) ≡ None → in_spawn code m function from site elements stage ≡ None
-  spawn_silent (Begins n) r function from site h = no_step _ h
+  spawn_silent (Begins n) r function from site h = cc
   spawn_silent _ r function from site h = refl
 
   start_silent : (stage : Stage) (site : ℕ) → asked_by (start code m site stage) ≡ None → in_start code m 0 elements stage ≡ None
-  start_silent (Enters function) site h = no_step _ h
+  start_silent (Enters function) site h = cc
   start_silent _ site h = refl
 
   exit_silent : (stage : Stage) → asked_by (exit s m stage) ≡ None → in_exit code m stage ≡ None
-  exit_silent (Withdraws row) h = refl
-  exit_silent (WithdrawsFrom row seen) h = refl
-  exit_silent _ h = no_step _ h
+  exit_silent (Withdraws row) h = cc
+  exit_silent _ h = cc
 
   signal_silent : (stage : Stage) (cell : Cell) (site : ℕ) → asked_by (signal m (word s m cell) stage) ≡ None → in_signal code m cell site 0 stage ≡ None
-  signal_silent (Wakes seen) cell site h = no_step _ h
-  signal_silent _ cell site h = no_step _ h
+  signal_silent (Wakes seen) cell site h = cc
+  signal_silent _ cell site h = cc
 
   said_silent : (i : Instr) → asked_by (act code s i m) ≡ None → said code i m 0 elements ≡ None
-  said_silent (Load r cell site) h = no_step _ h
-  said_silent (Store r cell site) h = no_step _ h
-  said_silent (LoadRef cell site) h = no_step _ h
-  said_silent (Exchange r cell site) h = no_step _ h
-  said_silent (TakeCell r cell site) h = no_step _ h
   said_silent (TakeLocal r from site) h = take_silent (ref m from) site (goes (move_ref m r from)) h
-  said_silent (Give r site) h = no_step _ h
   said_silent (New r count cells site) h = made_silent m.own.stage r (elements_of (int m count)) cells site h
   said_silent (Free r layout site) h = free_silent m.own.stage r site (layout_at code layout) h
-  said_silent (Lock cell site) h = no_step _ h
-  said_silent (Unlock r cell site) h = no_step _ h
   said_silent (Spawn r function from site) h = spawn_silent m.own.stage r function from site h
-  said_silent (Join r site) h = refl
-  said_silent (Print r site) h = no_step _ h
   said_silent (Start site) h = start_silent m.own.stage site h
   said_silent Exit h = exit_silent m.own.stage h
-  said_silent (CondEnter cell site) h = no_step _ h
-  said_silent (CondWait cell site) h = no_step _ h
   said_silent (CondSignal cell site) h = signal_silent m.own.stage cell site h
-  said_silent (CondBroadcast cell site) h = no_step _ h
-  said_silent _ h = refl
+  said_silent _ h = cc
 
   pub local_silent : asked_by (turn code s m) ≡ None → says code m 0 elements ≡ None
   local_silent = said_silent (instr_at code m.at.pc)

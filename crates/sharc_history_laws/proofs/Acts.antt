@@ -1,5 +1,5 @@
 -- What the event of a turn is about: an access, an object that is made, given or freed; and whose it is.
-use Rattle.sharc_history_laws.proofs.{Imports.{◌≡◌, ℕ, zero, suc, ◌+◌, ◌*◌, ◌%◌, ◌^◌, ◌<◌, Bool, true, false, Option, Some, None, if◌then◌else◌, refl, ap, arith, ◌||◌, sym, ◌∙◌, ◌==◌, SourceEvent, Act, Taken, NewView, NewStage, waits_in, Code, Cell, Register, Instr, Stage, Makes, Uncounts, Begins, Enters, Withdraws, WithdrawsFrom, Leaves as Leaving, Wakes, Machine, ref, said, reference, take_local, nobody, in_signal, in_exit, in_spawn, in_start, in_free, in_new, new_event, cell_at, mode_of, place_at, Access, access_by, made_by, given_by, Targets, Field, Labels, Fine, Accesses, is_access, tells, IsSaidBy, TurnsTell}, Tables.{header_at, header_in, header_of}}
+use Rattle.sharc_history_laws.proofs.{Imports.{◌≡◌, ℕ, zero, suc, ◌+◌, ◌*◌, ◌%◌, ◌^◌, ◌<◌, Bool, true, false, Option, Some, None, if◌then◌else◌, refl, ap, arith, ◌||◌, ◌==◌, SourceEvent, Act, Taken, NewView, NewStage, waits_in, Code, Cell, Register, Instr, Stage, Makes, Uncounts, Begins, Enters, Withdraws, WithdrawsFrom, Leaves as Leaving, Wakes, Machine, ref, said, reference, take_local, nobody, in_signal, in_exit, in_spawn, in_start, in_free, in_new, new_event, cell_at, mode_of, place_at, Access, access_by, made_by, given_by, Targets, Field, Labels, Fine, Accesses, is_access, tells, IsSaidBy, TurnsTell}, Tables.{header_at, header_in, header_of}}
 use Rattle.sharc_meaning.specs.{Events.freed_by, Reference.number_of}
 
 abbrev pub access_said : Option SourceEvent → Option Access
@@ -123,11 +123,8 @@ module _ (code : Code) (m : Machine) where
   no_access tell i found elements e = by (said code i m found elements) (tell code i m found elements)
     where
       of : (a : Act) → tells a i ≡ true → access_by a ≡ None
-      of (Act.Read c mode) w = absurd (let z : true ≡ false = sym w ∙ e in cc)
-      of (Act.Write c mode v) w = absurd (let z : true ≡ false = sym w ∙ e in cc)
-      of (Act.Take (Taken.Cell c mode) kind) w = absurd (let z : true ≡ false = sym w ∙ e in cc)
-      of (Act.Take (Taken.Local n) kind) w = refl
-      of _ w = refl
+      of (Act.Take (Taken.Cell c mode) kind) w = cc
+      of _ w = cc
 
       by : (ev : Option SourceEvent) → IsSaidBy i m ev → access_said ev ≡ None
       by None w = refl

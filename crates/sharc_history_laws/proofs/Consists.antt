@@ -83,14 +83,8 @@ pub record Consists (x : Targets) (code : Code) (s : Shape) (ls : Labels) (run :
   pub paths : (t : ℕ) → IsConsistent code s (begun code s t) (elements_before code s t run) (founds_of (turns_of t run))
 
 takes_single : (i : Instr) → takes_loaded i ≡ true → single i ≡ true
-takes_single (Instr.ChkLockLoaded site) e = refl
-takes_single (Instr.Load r c site) e = refl
-takes_single (Instr.Store r c site) e = refl
-takes_single (Instr.LoadRef c site) e = refl
-takes_single (Instr.Exchange r c site) e = refl
-takes_single (Instr.RaiseLoaded r) e = refl
-takes_single (Instr.TakeCell r c site) e = refl
-takes_single _ e = absurd (cc)
+takes_single (Instr.ChkLockLoaded site) e = cc
+takes_single _ e = cc
 
 module _ (x : Targets) (code : Code) (s : Shape) (ls : Labels) (wt : IsWellTyped x code ls) (fits : Fits code s) (g : Global Machine) (world : World) (st : State x code s ls g world) where
   -- a thread that was not started has made no turn

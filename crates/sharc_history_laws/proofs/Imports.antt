@@ -1,5 +1,5 @@
 -- What the proofs cite of std, of other crates and of this crate's definitions, passed on from one place.
-pub use Rattle.std.proofs.{Common.{Bool, List, None, Option, Some, [], ap, append_assoc, arith, cond, eqb-true, false, filter, if◌then◌else◌, inl, inr, is_some, length, ltb-true, max, min, negsuc, not, pos, refl, replicate, reverse, subst, suc, sym, true, zero, ℕ, ℤ, ⊎_elim, ◌%◌, ◌&&◌, ◌*◌, ◌++◌, ◌+◌, ◌-◌, ◌/◌, ◌<◌, ◌^◌, ◌||◌, ◌↔◌, ◌∙◌, ◌∷◌, ◌≡◌, ◌≢◌, ◌≤◌, ◌⊎◌}, Math.Nat.mul-le-mul_right, lemmas.Bool.{and_from, and_left as and_no, and_parts, cases_Bool, cases_eq, cases_lt, false_from_ne_true as not_true, le-leb, lt-leb, lt-ltb, or_from as or_no, or_left, or_right, true_from_ne_false as not_false, not_from_false, or_parts}, lemmas.Bool.Decides.{Decides-ltb, nat_tests}, lemmas.List.{get_or-set_other, get_or_append_left, get_or_push, length-map, length_push, reverse-append, reverse-reverse}, lemmas.List.Elements.All-contains_itself, lemmas.List.FromFn.get_or-map-range_with_len}
+pub use Rattle.std.proofs.{Common.{Bool, List, None, Option, Some, [], ap, append_assoc, arith, cond, eqb-true, false, filter, if◌then◌else◌, inl, inr, is_some, length, ltb-true, max, min, negsuc, not, pos, refl, replicate, reverse, subst, suc, sym, true, zero, ℕ, ℤ, ⊎_elim, ◌%◌, ◌&&◌, ◌*◌, ◌++◌, ◌+◌, ◌-◌, ◌/◌, ◌<◌, ◌^◌, ◌||◌, ◌↔◌, ◌∙◌, ◌∷◌, ◌≡◌, ◌≢◌, ◌≤◌, ◌⊎◌}, Math.{Arith.lt_of_le-ne, Nat.mul-le-mul_right}, lemmas.Bool.{and_from, and_left as and_no, and_parts, cases_Bool, cases_eq, cases_lt, false_from_ne_true as not_true, le-leb, lt-leb, lt-ltb, or_from as or_no, or_left, or_right, true_from_ne_false as not_false, not_from_false, or_parts}, lemmas.Bool.Decides.{Decides-ltb, nat_tests}, lemmas.List.{get_or-set_other, get_or_append_left, get_or_push, length-map, length_push, reverse-append, reverse-reverse}, lemmas.List.Elements.All-contains_itself, lemmas.List.FromFn.get_or-map-range_with_len}
 pub use Rattle.std.specs.{List.list_any, Prelude.{All, Any, Contains, Err, Ok, Result, bit_or, find, map, nat_eq, nat_le, nat_lt, slice_index, slice_index_or, slice_set, take, ◌==◌}}
 pub use Rattle.sharc_lemmas.proofs.{Bools.{and_left, and_right, both as both_true, not_ended, not_true as not_yes, or_assoc, or_false, or_first, or_second, or_split, yes}, Lists.{same_or, set_here, set_same}, Numbers.{eq_refl, eqb_other as ne_of, is_below, ne_eq, ne_zero, not_below, same_is, same_number as eq_of}, Options.some_or}
 pub use Rattle.sharc_tree.specs.{declared.event.Act.Act, declared.event.CellAt.CellAt, declared.event.CellMode.CellMode, declared.event.CellMode.TheVariants.Dynamic, declared.event.Object.Object, declared.event.SourceEvent.SourceEvent, declared.event.Taken.Taken, declared.trap.Trap.Trap}

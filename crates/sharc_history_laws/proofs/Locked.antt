@@ -1,5 +1,5 @@
 -- Which cell a place is, what a held log says of the mutexes that are held, and which registers hold the same.
-use Rattle.sharc_history_laws.proofs.{Imports.{◌≡◌, ℕ, ℤ, pos, zero, suc, ◌+◌, ◌-◌, ◌*◌, ◌<◌, ◌≤◌, ◌≢◌, ◌⊎◌, inl, inr, true, false, not, cond, List, [], ◌∷◌, ◌++◌, Option, Some, None, is_some, if◌then◌else◌, refl, sym, ap, ◌∙◌, subst, ⊎_elim, arith, eqb-true, cases_eq, cases_lt, nat_tests, nat_lt, ◌==◌, slice_index_or, All, CellAt, Object, CellMode, HeldMutex, without, object_of, Code, Cell, Shape, Fits, first_cell, words_of, cell_of, cell_word, Machine, ref, int, place, object, word, IsInGlobal, Global, cell_at, made_cell, no_global, IsThere, IsApart, Targets, cells_of, Element, Named, Nth, OfElementCell, OfGlobal, Labels, SameReference, Itself, IsCopy, HasCopy, Copies, Chained, IsWellTyped, RegisterOf, World, State, NumberStands, ElementStands, OnHold, types_at, IsOn, is_below, Contains}, TurnAt.thread_at, Stands.{top, reads_ref, rn}, Lists.Newest, Holding.holds_in}
+use Rattle.sharc_history_laws.proofs.{Imports.{◌≡◌, ℕ, ℤ, pos, zero, suc, ◌+◌, ◌*◌, ◌<◌, ◌≤◌, ◌≢◌, ◌⊎◌, inl, inr, true, false, not, cond, List, [], ◌∷◌, ◌++◌, Option, Some, None, is_some, if◌then◌else◌, refl, sym, ap, ◌∙◌, subst, ⊎_elim, arith, eqb-true, cases_eq, cases_lt, nat_tests, nat_lt, ◌==◌, slice_index_or, All, CellAt, Object, CellMode, HeldMutex, without, object_of, Code, Cell, Shape, Fits, first_cell, words_of, cell_of, cell_word, Machine, ref, int, place, object, word, IsInGlobal, Global, cell_at, made_cell, no_global, IsThere, IsApart, Targets, cells_of, Element, Named, Nth, OfElementCell, OfGlobal, Labels, SameReference, Itself, IsCopy, HasCopy, Copies, Chained, IsWellTyped, RegisterOf, World, State, NumberStands, ElementStands, OnHold, types_at, IsOn, is_below, Contains, lt_of_le-ne}, TurnAt.thread_at, Stands.{top, reads_ref, rn}, Lists.Newest, Holding.holds_in}
 
 -- ---- entries of a log
 abbrev pub IsIn : HeldMutex → List HeldMutex → Type 0
@@ -48,12 +48,9 @@ module _ (x : Targets) (code : Code) (ls : Labels) (wt : IsWellTyped x code ls) 
       (λ (e : g ≡ h). e)
       (λ (ne : g ≡ h → ⊥). ⊎_elim
       (λ (lt : g < h). let z = wt.globals.apart g h lt b.known in let p = a.high in let q = b.low in absurd (omega arith))
-      (λ (ge : h ≤ g). let z = wt.globals.apart h g (smaller h g ge (λ e. ne (sym e))) a.known in let p = b.high in let q = a.low in absurd (omega arith))
+      (λ (ge : h ≤ g). let z = wt.globals.apart h g (lt_of_le-ne ge (λ e. ne (sym e))) a.known in let p = b.high in let q = a.low in absurd (omega arith))
       (cases_lt g h))
       (cases_eq g h)
-    where
-      smaller : (p o : ℕ) → p ≤ o → (p ≡ o → ⊥) → p < o
-      smaller p o le ne = ⊎_elim (λ (l : p < o). l) (λ (ge : o ≤ p). absurd (ne (omega arith))) (cases_lt p o)
 
   -- no two cells are named so
   one_in : (a b : Object) (i j o at : ℕ) → NamesIn code a i o at → NamesIn code b j o at → (a ≡ b) × (i ≡ j)

@@ -1,5 +1,5 @@
 -- The elements of objects by the source events are those that the length words of live objects hold.
-use Rattle.sharc_history_laws.proofs.{Imports.{◌≡◌, ℕ, zero, suc, ◌+◌, ◌*◌, ◌%◌, ◌^◌, ◌<◌, ◌≤◌, ◌≢◌, ◌⊎◌, inl, inr, Bool, true, false, List, Option, Some, None, if◌then◌else◌, refl, sym, ap, ◌∙◌, subst, ⊎_elim, arith, eqb-true, cases_eq, cases_lt, nat_tests, get_or-set_other, slice_index, nat_eq, ◌==◌, ◌||◌, WordStep, WordEvent, word_after, words_after_step, SourceEvent, NewView, NewStage, waits_in, Code, Cell, Register, Instr, Shape, Stage, Makes, Uncounts, Begins, Enters, Withdraws, WithdrawsFrom, Leaves as Leaving, Wakes, first_cell, Machine, StepTurn as Turn, Local, Asks, ref, asked_by, Global, put, words_now, said, reference, number_of, take_local, nobody, in_signal, in_exit, in_spawn, in_start, in_free, in_new, new_event, Elements, elements_told, Targets, Labels, ObjectState, World, length_at, Built, Live, objects_behind, made_behind, new_behind, freed_behind, owned, gone, type_held, State, set_same}, Writes.{Wrote, Leaves, Low, CountOf, InCell, InBlock, Writes}}
+use Rattle.sharc_history_laws.proofs.{Imports.{◌≡◌, ℕ, zero, suc, ◌+◌, ◌*◌, ◌%◌, ◌^◌, ◌<◌, ◌≤◌, ◌≢◌, ◌⊎◌, inl, inr, Bool, true, false, List, Option, Some, None, if◌then◌else◌, refl, sym, ap, ◌∙◌, subst, ⊎_elim, arith, eqb-true, cases_eq, cases_lt, nat_tests, get_or-set_other, slice_index, nat_eq, ◌==◌, ◌||◌, WordStep, WordEvent, word_after, words_after_step, SourceEvent, NewView, NewStage, waits_in, Code, Cell, Register, Instr, Shape, Stage, Makes, Uncounts, Begins, Enters, Withdraws, WithdrawsFrom, Leaves as Leaving, Wakes, first_cell, Machine, StepTurn as Turn, Local, Asks, ref, asked_by, Global, put, words_now, said, reference, number_of, take_local, nobody, in_signal, in_exit, in_spawn, in_start, in_free, in_new, new_event, Elements, elements_told, Targets, Labels, ObjectState, World, length_at, Built, Live, objects_behind, made_behind, new_behind, freed_behind, owned, gone, type_held, State, set_same, lt_of_le-ne}, Writes.{Wrote, Leaves, Low, CountOf, InCell, InBlock, Writes}}
 use Rattle.sharc_code.specs.Runs.{step_of}
 use Rattle.sharc_invariant.specs.Words.{cell_at}
 
@@ -157,25 +157,19 @@ module _ (x : Targets) (code : Code) (s : Shape) (ls : Labels) (g : Global Machi
       (λ (z : o ≡ p). omega arith)
       (λ (ne : o ≡ p → ⊥). ⊎_elim
       (λ (less : o < p). omega arith)
-      (λ (more : p ≤ o). let a = st.apart.apart p o there live (smaller p o more (λ z. ne (sym z))) in omega arith)
+      (λ (more : p ≤ o). let a = st.apart.apart p o there live (lt_of_le-ne more (λ z. ne (sym z))) in omega arith)
       (cases_lt o p))
       (cases_eq o p)
-    where
-      smaller : (p o : ℕ) → p ≤ o → (p ≡ o → ⊥) → p < o
-      smaller p o le ne = ⊎_elim (λ (l : p < o). l) (λ (ge : o ≤ p). absurd (ne (omega arith))) (cases_lt p o)
 
   apart_block : (b word : ℕ) → st.heap.state b ≡ Built t → st.heap.size b ≢ 0 → first_cell s + 2 * b ≤ word → word < first_cell s + 2 * (b + st.heap.size b) → length_at s o ≡ word → ⊥
   apart_block b word built nzb low high e = ⊎_elim
       (λ (z : b ≡ o). not_built b t built z)
       (λ (ne : b ≡ o → ⊥). ⊎_elim
       (λ (less : b < o). let a = st.heap_stands.kept.blocks.apart b o nzb some_size less in omega arith)
-      (λ (more : o ≤ b). past b (smaller o b more (λ z. ne (sym z))) word low e)
+      (λ (more : o ≤ b). past b (lt_of_le-ne more (λ z. ne (sym z))) word low e)
       (cases_lt b o))
       (cases_eq b o)
     where
-      smaller : (p o : ℕ) → p ≤ o → (p ≡ o → ⊥) → p < o
-      smaller p o le ne = ⊎_elim (λ (l : p < o). l) (λ (ge : o ≤ p). absurd (ne (omega arith))) (cases_lt p o)
-
       past : (b : ℕ) → o < b → (word : ℕ) → first_cell s + 2 * b ≤ word → length_at s o ≡ word → ⊥
       past b lt word low e = omega arith
 
