@@ -12,17 +12,14 @@ entry_of r at [] g d is = absurd (none_some d is)
 entry_of r at (x ∷ rest) zero d is = record { inside = omega arith; cells = ap (cells_in r) (same_some x d is); low = omega arith }
 entry_of r at (x ∷ rest) (suc g) d is =
     let w = entry_of r (at + granules_in r x) rest g d is in
-    let inside = w.inside in
-    let low = w.low in
-    record { inside = omega (arith, inside); cells = w.cells; low = omega (arith, low) }
+    record { inside = omega (arith, w.inside); cells = w.cells; low = omega (arith, w.low) }
 
 -- a cell among those of a global
 in_global_cells : (m : Assignment) (code : Code) → HasTables m code → (g j : ℕ) (d : GlobalDefinition) → global_at m.typed g ≡ Some d → j < cells_in m.typed d → IsInGlobal code g (first_cell (globals_of m.typed) g + j)
 in_global_cells m code tables g j d is low =
     let w = entry_of m.typed 1 (globals_in m.typed.program.items) g d is in
-    let many = w.cells in
     let begins : 2 * (slice_index_or (globals_of m.typed) g no_global).granule ≤ first_cell (globals_of m.typed) g + j = omega arith in
-    let ends : first_cell (globals_of m.typed) g + j < 2 * (slice_index_or (globals_of m.typed) g no_global).granule + (slice_index_or (globals_of m.typed) g no_global).cells = omega (arith, many, low) in
+    let ends : first_cell (globals_of m.typed) g + j < 2 * (slice_index_or (globals_of m.typed) g no_global).granule + (slice_index_or (globals_of m.typed) g no_global).cells = omega (arith, w.cells, low) in
     record {
       is = subst (λ l. g < length l) (sym tables.globals) w.inside;
       from = subst (λ l. 2 * (slice_index_or l g no_global).granule ≤ first_cell (globals_of m.typed) g + j) (sym tables.globals) begins;

@@ -1,5 +1,5 @@
 -- What no thread reaches, and that private globals are named there alone.
-use Rattle.sharc_accepted_laws.proofs.{Imports.{◌≡◌, ◌⊎◌, inl, inr, ⊎_elim, ℕ, zero, suc, ◌+◌, ◌<◌, ◌≤◌, Bool, true, false, cond, ◌&&◌, List, [], ◌∷◌, ◌++◌, length, slice_get, refl, ap, sym, ◌∙◌, subst, arith, Option, Some, None, IsSomeAnd, Contains, false≢true, and_parts, get_or as slice_index_or, AllByRecursion, option_or, Base, Mode, Private, Readonly, Locked, Racy, Span, Declaration, Identifier, WrittenType, Dot, Dereference, GlobalDefinition, expressions, in_function, Expression, Function, Named, Kind, is_array, declared_kind, Role, Entity, Numbered, declared, entities_in, numbered, is_told_by, positions_of, Names, Spawns, Runs, Leads, IsReached, tokens_of, Resolution, named_at, global_at, function_at, declaration_at, globals_in, functions_in, structs_in, kind_at, HasType, Callee, of_program, of_conditions, a_variable, a_global, a_function, a_field, IsItself, IsFound, EachTypeFound, EachNamesItself, EachPathFound, MeetsConstraints, NodeFinding, finding_at, is_mutex_kind, is_behind_pointer, written_cell, top_of, field_cell, declared_cell, field_named, first_mode, global_cell, named_cell, pointed, cell_at, IsFirst, Touches, IsRoot, mode_found, LinkLaws, Assignment, position_count, row_at, is_mutex, settled, settled_modes, settled_in, settled_at, Sharing, private, readonly, locked, racy, lock_of, sharing_of, RulesAreMet, ReachedAreTold, MeetsRules, in_global, in_global_at, in_object_at, global_of, own_field, named_target, target, IsInside, AreAlone, SomeAreAlone, IsAccepted, front, each, of_each}, Arrays.{IsNameOf, array_name}, Places.{InFile, FileKnown, FieldInFile, file_known, struct_fields, field_found, at_number, IfSome}, Tokens.{Named as IsAmong, names_among}, Settling.{IsPositioned, positioned}, Written.found_there, TargetLists.place_there, Found.global_low, TargetMembers.top_written}
+use Rattle.sharc_accepted_laws.proofs.{Imports.{◌≡◌, ◌⊎◌, inl, inr, ⊎_elim, ℕ, zero, suc, ◌+◌, ◌<◌, ◌≤◌, Bool, true, false, cond, ◌&&◌, List, [], ◌∷◌, ◌++◌, length, slice_get, refl, ap, sym, ◌∙◌, subst, arith, Option, Some, None, IsSomeAnd, Contains, false≢true, and_parts, get_or as slice_index_or, AllByRecursion, option_or, Base, Mode, Private, Readonly, Locked, Racy, Span, Declaration, Identifier, WrittenType, Dot, Dereference, GlobalDefinition, expressions, in_function, Expression, Function, Named, Kind, is_array, declared_kind, Role, Entity, Numbered, declared, entities_in, numbered, is_told_by, positions_of, Names, Spawns, Runs, Leads, IsReached, tokens_of, Resolution, named_at, global_at, function_at, declaration_at, globals_in, functions_in, structs_in, kind_at, HasType, Callee, of_program, of_conditions, a_variable, a_global, a_function, a_field, IsItself, IsFound, EachTypeFound, EachNamesItself, EachPathFound, MeetsConstraints, NodeFinding, finding_at, is_mutex_kind, is_behind_pointer, written_cell, top_of, field_cell, declared_cell, field_named, first_mode, global_cell, named_cell, pointed, cell_at, IsFirst, Touches, IsRoot, mode_found, LinkLaws, Assignment, position_count, row_at, is_mutex, settled, settled_modes, settled_in, settled_at, Sharing, private, readonly, locked, racy, lock_of, sharing_of, RulesAreMet, ReachedAreTold, MeetsRules, in_global, in_global_at, in_object_at, global_of, own_field, named_target, target, IsInside, AreAlone, SomeAreAlone, IsAccepted, front, each, of_each, place_there}, Arrays.{IsNameOf, array_name}, Places.{InFile, FileKnown, FieldInFile, file_known, struct_fields, field_found, at_number, IfSome}, Tokens.{Named as IsAmong, names_among}, Settling.{IsPositioned, positioned}, Written.found_there, Found.global_low, TargetMembers.top_written}
 use Rattle.sharc_tree.specs.Tree as tree
 use Rattle.sharc_mode.specs.Sharings.{is_private, is_dynamic}
 
@@ -105,8 +105,7 @@ module _ (told : ReachedAreTold) (links : LinkLaws) (rules : RulesAreMet) (found
 
     settled_is : settled_at r2 n2.first ≡ slice_index_or (settled d.declaration.written.ctype.base None d.declaration.written.ctype.levels) 0 (Some Private)
     settled_is =
-        let first = stands.first in
-        let z : n2.first ≡ stands.skip + 0 = omega (arith, first) in
+        let z : n2.first ≡ stands.skip + 0 = omega (arith, stands.first) in
         ap (λ p. slice_index_or (settled_in (entities_in r2.program.items)) p (Some Private)) z ∙ stands.levels 0 positions_low ∙ ap (λ e. slice_index_or (settled_modes e) 0 (Some Private)) there.itself
 
     abbrev mode : Mode
@@ -121,10 +120,8 @@ module _ (told : ReachedAreTold) (links : LinkLaws) (rules : RulesAreMet) (found
     module _ (is : mode ≡ Private) where
       found_private : mode_found (slice_index_or (settled d.declaration.written.ctype.base None d.declaration.written.ctype.levels) 0 (Some Private)) (finding_at a.least.findings n2.first) ≡ Private
       found_private =
-          let first = stands.first in
-          let inside = stands.ends in
           let low = positions_low in
-          let within : n2.first < position_count r2 = omega (arith, first, inside, low) in
+          let within : n2.first < position_count r2 = omega (arith, stands.first, stands.ends, low) in
           ap (λ o. mode_found o (finding_at a.least.findings n2.first)) (sym settled_is) ∙ sym (a.least.mode n2.first within) ∙ is
 
       first_touch : (n : ℕ) → Touches r2 n g → ((j : ℕ) → j < n → Touches r2 j g → ⊥) → ⊥

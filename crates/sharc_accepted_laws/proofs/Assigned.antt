@@ -1,5 +1,5 @@
 -- Assignments, and calls whose value is dropped.
-use Rattle.sharc_accepted_laws.proofs.{Imports.{no_integer, ◌≡◌, ℕ, ◌<◌, Bool, true, false, cond, List, length, refl, ap, sym, ◌∙◌, subst, option_map, Option, Some, None, Contains, false≢true, AllByRecursion, flat_map, Span, WrittenType, is_lvalue, without_parentheses, is_call, LowSimple, expressions, in_option, in_right, in_simple, in_function, Expression, Right, value, malloc, Simple, assign, does_call, Function, Kind, is_integer, is_pointer, same_kind, declared_kind, Register, Int, Reference, Resolution, functions_in, made, Receiver, lvalue as to_lvalue, Transfer, Agrees, function_transfers, IsHeld, MeetsSimple, element_cells, is_pointer_in, made_at, types_made, is_reference, cell_at, pointed, Assignment, base_of, Targets as ModeTargets, row_at, modes_of, modes_at, Sharing, IsExpression, IsAssigned, kind_of, is_ref, target_of, Target, width_of, Context, slot_kind, register_of, number_in, PlaceSuits, LeftSuits, RightSuits, SimpleSuits, CountSuits, IfThere, is_cell, StaticType, cells_of, Refers, PointersMadeAt, Setting, GoesTo, type_by, IsTypeIn, IsTypable, VariableTyped, IsMade, CountTypable, ValueGoes, RightTypable, VariableAssigned, CellAssigned, Assigned, Dropped, SimpleTypable, HeldLaws, held_at, GivenLaws, ScopeLaws, AllStand, ExpressionStands, ExpressionsStand, static_of, entry_by, entry_of, IsRowOf, NumbersFound, ExpressionsFound, pointee, PointeesFit, PointeesPoint, row_shape, targets_of, IsAt, ValueLaws, typing, IsPlaceIn, IsThere, AreExpressionsTypable, front, back, each, eq_refl}, Mallocs.one_made, Members.{filter_there, first_of, flat_there}, Sorts.{integer_want, held_pointer, held_integer, no_function_held, made_pointer, made_element, element_some}, Wholes.{Facts, IsName, variable_named}, TargetLists.place_there, Forms.{integer_no_reference as integer_is}}
+use Rattle.sharc_accepted_laws.proofs.{Imports.{no_integer, ◌≡◌, ℕ, ◌<◌, Bool, true, false, cond, List, length, refl, ap, sym, ◌∙◌, subst, option_map, Option, Some, None, Contains, false≢true, AllByRecursion, flat_map, Span, WrittenType, is_lvalue, without_parentheses, is_call, LowSimple, expressions, in_option, in_right, in_simple, in_function, Expression, Right, value, malloc, Simple, assign, does_call, Function, Kind, is_integer, is_pointer, same_kind, declared_kind, Register, Int, Reference, Resolution, functions_in, made, Receiver, lvalue as to_lvalue, Transfer, Agrees, function_transfers, IsHeld, MeetsSimple, element_cells, is_pointer_in, made_at, types_made, is_reference, cell_at, pointed, Assignment, base_of, Targets as ModeTargets, row_at, modes_of, modes_at, Sharing, IsExpression, IsAssigned, kind_of, is_ref, target_of, Target, width_of, Context, slot_kind, register_of, number_in, PlaceSuits, LeftSuits, RightSuits, SimpleSuits, CountSuits, IfThere, is_cell, StaticType, cells_of, Refers, PointersMadeAt, Setting, GoesTo, type_by, IsTypeIn, IsTypable, VariableTyped, IsMade, CountTypable, ValueGoes, RightTypable, VariableAssigned, CellAssigned, Assigned, Dropped, SimpleTypable, HeldLaws, held_at, GivenLaws, ScopeLaws, AllStand, ExpressionStands, ExpressionsStand, static_of, entry_by, entry_of, IsRowOf, NumbersFound, ExpressionsFound, pointee, PointeesFit, PointeesPoint, row_shape, targets_of, IsAt, ValueLaws, typing, IsPlaceIn, IsThere, AreExpressionsTypable, front, back, each, eq_refl, place_there}, Mallocs.one_made, Members.{filter_there, first_of, flat_there}, Sorts.{integer_want, held_pointer, held_integer, no_function_held, made_pointer, made_element, element_some}, Wholes.{Facts, IsName, variable_named}, Forms.integer_no_reference as integer_is}
 use Rattle.sharc_tree.specs.Tree as tree
 use Rattle.sharc_flat.specs.Places.{variable}
 use Rattle.sharc_invariant.specs.Types.{Targets}

@@ -1,5 +1,5 @@
 -- What a field is locked by in its element: a mutex, or a readonly pointer to one.
-use Rattle.sharc_accepted_laws.proofs.{Imports.{◌≡◌, ⊎_elim, ℕ, zero, suc, ◌+◌, ◌<◌, Bool, true, false, ◌&&◌, cond, List, [], ◌∷◌, length, map, get_or as slice_index_or, refl, ap, sym, ◌∙◌, subst, arith, Option, Some, None, Contains, bytes_eq, cases_lt, slice_get, is_none, AllByRecursion, Base, Mode, Path, One, Declaration, WrittenType, GlobalDefinition, StructDefinition, IsLow, Named, Role, object, is_pointer, declared_kind, mutex, Entity, entity_at, Resolution, named_at, named_kind, variable_kind, declaration_at, structs_in, globals_in, IsItself, EachTypeFound, EachNameOnce, OnlyNames, EachNamesItself, RulesAreMet, IsAllowed, global_mutex, sibling_mutex, sibling_pointer, through_constant, field_place, field_place_named, is_mutex_kind, is_behind_pointer, top_of, first_mode, Assignment, written, declared_row, modes_of, base_of, place_of, Lock, Sharing, locked, lock_of, is_field, Place, OfElement, FieldMode, Under, MutexWord, Pointer, Field, TableTarget as Target, no_field, row_of, FieldMode as field, PointsToMutex, BesideFits, AreLockedBeside, LocksStandBeside, Form, racy_form, form_of, stars_in, number, IsRowOf, pointee, PointeeFits, table_lock as lock_named, field_lock, field_locks, own_mode, global_mode, is_private_mode, locked_mode, written_mode, field_mode, base_content, pointer_content, declared_content, single, member, members, struct_fields, base_fields, lock_count, type_locks, shape_fields, top_mode, global_element, targets_of, same_some, head_there, place_of_element, some_there, of_each, tail_there, below_there}, TargetCells.member_count, Expressing.variable_row, Table.past_end, Moding.{not_field, not_pointer}, Pointees.{pointees_fit, many_modes}, Ready.global_lock, Whole.{known as known_of}, Found.field_found, TargetLists.place_there, TargetMembers.{members_at, top_written, field_readonly}, Numbers.numbers_found, Rows.{IsKnown, top_there}}
+use Rattle.sharc_accepted_laws.proofs.{Imports.{◌≡◌, ⊎_elim, ℕ, zero, suc, ◌+◌, ◌<◌, Bool, true, false, ◌&&◌, cond, List, [], ◌∷◌, length, map, get_or as slice_index_or, refl, ap, sym, ◌∙◌, subst, arith, Option, Some, None, Contains, bytes_eq, cases_lt, slice_get, is_none, AllByRecursion, Base, Mode, Path, One, Declaration, WrittenType, GlobalDefinition, StructDefinition, IsLow, Named, Role, object, is_pointer, declared_kind, mutex, Entity, entity_at, Resolution, named_at, named_kind, variable_kind, declaration_at, structs_in, globals_in, IsItself, EachTypeFound, EachNameOnce, OnlyNames, EachNamesItself, RulesAreMet, IsAllowed, global_mutex, sibling_mutex, sibling_pointer, through_constant, field_place, field_place_named, is_mutex_kind, is_behind_pointer, top_of, first_mode, Assignment, written, declared_row, modes_of, base_of, place_of, Lock, Sharing, locked, lock_of, is_field, Place, OfElement, FieldMode, Under, MutexWord, Pointer, Field, TableTarget as Target, no_field, row_of, FieldMode as field, PointsToMutex, BesideFits, AreLockedBeside, LocksStandBeside, Form, racy_form, form_of, stars_in, number, IsRowOf, pointee, PointeeFits, table_lock as lock_named, field_lock, field_locks, own_mode, global_mode, is_private_mode, locked_mode, written_mode, field_mode, base_content, pointer_content, declared_content, single, member, members, struct_fields, base_fields, lock_count, type_locks, shape_fields, top_mode, global_element, targets_of, same_some, head_there, place_of_element, some_there, of_each, tail_there, below_there, place_there}, TargetCells.member_count, Expressing.variable_row, Table.past_end, Moding.{not_field, not_pointer}, Pointees.{pointees_fit, many_modes}, Ready.global_lock, Whole.known as known_of, Found.field_found, TargetMembers.{members_at, top_written, field_readonly}, Numbers.numbers_found, Rows.{IsKnown, top_there}}
 
 -- ---- modes that name what is beside
 -- an element's own mode names nothing beside it

@@ -1,5 +1,5 @@
 -- The cells of an accepted program, by the laws of accesses.
-use Rattle.sharc_accepted_laws.proofs.{Imports.{◌≡◌, ℕ, Bool, true, refl, ap, sym, ◌∙◌, arith, lt-ltb, Contains, AllByRecursion, expressions, in_function, Expression, call, Function, is_pointer, mutex_pointer, Code, functions_in, function_at, Assignment, IsExpression, kind_of, Context, Refers, Setting, type_by, IsPointer, IsCodeOf, type_of_mutex, type_of_condition, KnowsCondition, HasFirstCells, FirstsFit, IsTypingOf, PathsLead, IsOf, LvaluesAreTyped, AreAlone, KnownCalls, ScopeLaws, ExpressionStands, entry_of, ValueLaws, typing, CellsAreTyped, ConditionsTyped, CellsTyped, setting_of, IsSet, each}, Members.first_of, TargetLists.place_there, Calls.{alone_is as same_alone}}
+use Rattle.sharc_accepted_laws.proofs.{Imports.{◌≡◌, ℕ, Bool, true, refl, ap, sym, ◌∙◌, arith, lt-ltb, Contains, AllByRecursion, expressions, in_function, Expression, call, Function, is_pointer, mutex_pointer, Code, functions_in, function_at, Assignment, IsExpression, kind_of, Context, Refers, Setting, type_by, IsPointer, IsCodeOf, type_of_mutex, type_of_condition, KnowsCondition, HasFirstCells, FirstsFit, IsTypingOf, PathsLead, IsOf, LvaluesAreTyped, AreAlone, KnownCalls, ScopeLaws, ExpressionStands, entry_of, ValueLaws, typing, CellsAreTyped, ConditionsTyped, CellsTyped, setting_of, IsSet, each, place_there}, Members.first_of, Calls.alone_is as same_alone}
 
 told_alone : (m : Assignment) (alone told : ℕ → Bool) → ((k : ℕ) → told k ≡ alone k) → AreAlone m alone → AreAlone m told
 told_alone m alone told same a = record {

@@ -1,38 +1,5 @@
 -- Calls of `wait`, `signal` and `broadcast`.
-use Rattle.sharc_accepted_laws.proofs.{Imports.{◌≡◌, inl, inr, ℕ, zero, suc, Bool, true, false, List, [], ◌∷◌, ◌++◌, refl, ap, sym, ◌∙◌, subst, option_map, Some, None, bytes_eq, codes, if◌then◌else◌, false≢true, NumberType, Span, Identifier, expressions, in_arguments, Expression, call, Arguments, no_arguments, argument, Function, Base, Constant, Named, Wait, Signal, Broadcast, Kind, object, null, is_pointer, is_null, condition_pointer, mutex_pointer, Code, number_kind, Resolution, named_at, function_at, kind_at, HasType, HaveTypes, none_left, one_more, Callee, of_program, of_conditions, Assignable, integer, pointer, null_pointer, Common, both_shorter, a_global, a_function, a_constant, in_parentheses, a_call, negated, complemented, arithmetic, shifted, is_reference, Assignment, modes_of, row_at, kind_of, is_ref, Context, Either, ReferencesSuit, StaticType, Content, MutexWord, Waiters, SomeNames, Empty, Setting, type_by, GoesTo, FirstCell, IsTypeIn, IsVoid, Goes, AreTwo, IsOne, AreTypable, ConditionTyped, CallTypable, IsOf, entry_by, entry_of, typing, HasFirst, ConditionsTyped, setting_of, IsSet}, Arguments.{Parts, part_of, first_part, second_part, AllSuit, AllGo}, Facts.{Laws, has_type, pointer_of}, Forms.{call_typed, reference_scalar, global_null as global_some}}
-
--- ---- NULL
-pub object_no_null : (b : Base) (n : ℕ) → object b n ≡ null → ⊥
-object_no_null b n h = cc
-
-function_no_null : (r : Resolution) (i : Identifier) (ps : List Kind) (res : Kind) → Callee r i ps res → res ≡ null → ⊥
-function_no_null r i _ _ (of_program f is at spelled other) h = cc
-function_no_null r i _ _ (of_conditions c is spelled) h = cc
-
-common_no_null : (j k t : Kind) → Common j k t → t ≡ null → ⊥
-common_no_null _ _ _ (both_shorter a b) h = cc
-common_no_null _ _ _ _ h = cc
-
-pub number_no_null : (t : NumberType) → number_kind t ≡ null → ⊥
-number_no_null NumberType.Int h = cc
-number_no_null NumberType.Long h = cc
-
-some_kind : (k : Kind) → is_null k ≡ false → k ≡ null → ⊥
-some_kind k some h = false≢true (sym some ∙ ap is_null h)
-
--- what has the type of NULL is NULL, in parentheses or not, and has no row
-null_row : (r : Resolution) (e : Expression) (k : Kind) → HasType r e k → k ≡ null → row_at r e ≡ None
-null_row r _ _ (a_global {g = g} is at spelled) h = absurd (some_kind _ (global_some g.form _ _) h)
-null_row r _ _ (a_function q) h = absurd (some_kind _ refl h)
-null_row r _ _ (a_constant {c = Constant.Number n}) h = absurd (number_no_null n.number_type h)
-null_row r _ _ (a_constant {c = Constant.Null}) h = refl
-null_row r _ _ (in_parentheses {a = a} {k = k} t) h = null_row r a k t h
-null_row r _ _ (a_call {f = f} q x) h = absurd (function_no_null r f _ _ q h)
-null_row r _ _ (negated a i x) h = absurd (common_no_null _ _ _ x h)
-null_row r _ _ (complemented a i x) h = absurd (common_no_null _ _ _ x h)
-null_row r _ _ (arithmetic is a b l m x) h = absurd (common_no_null _ _ _ x h)
-null_row r _ _ (shifted is a b l m x) h = absurd (common_no_null _ _ _ x h)
-null_row r _ _ _ h = absurd (cc)
+use Rattle.sharc_accepted_laws.proofs.{Imports.{◌≡◌, inl, inr, ℕ, zero, suc, Bool, true, false, List, [], ◌∷◌, ◌++◌, refl, ap, sym, ◌∙◌, subst, Some, bytes_eq, codes, if◌then◌else◌, false≢true, Span, Identifier, expressions, in_arguments, Expression, call, Arguments, no_arguments, argument, Function, Base, Named, Wait, Signal, Broadcast, Kind, object, null, is_pointer, condition_pointer, mutex_pointer, Code, Resolution, named_at, function_at, kind_at, HasType, HaveTypes, none_left, one_more, Callee, of_program, of_conditions, Assignable, integer, pointer, null_pointer, is_reference, Assignment, kind_of, is_ref, Context, Either, ReferencesSuit, StaticType, Content, MutexWord, Waiters, SomeNames, Setting, type_by, GoesTo, FirstCell, IsTypeIn, IsVoid, Goes, AreTwo, IsOne, AreTypable, ConditionTyped, CallTypable, IsOf, entry_by, entry_of, typing, HasFirst, ConditionsTyped, setting_of, IsSet}, Arguments.{Parts, part_of, first_part, second_part, AllSuit, AllGo}, Facts.{Laws, has_type, pointer_of}, Forms.{call_typed, reference_scalar}, Given.null_modes}
 
 -- ---- types of arguments, the first and the second
 abbrev pub two_types : StaticType → StaticType → ℕ → StaticType
@@ -55,9 +22,6 @@ module _ (laws : Laws) (c : Context) (code : Code) (alone : ℕ → Bool) (lines
   one : (e : Expression) (k : Kind) → HasType r e k → kind_at r e ≡ k
   one = laws.one_type r set.accepted.resolved set.accepted.placed set.accepted.low
 
-  null_entry : (e : Expression) → At e → kind_of c e ≡ null → entry_of c e ≡ Empty
-  null_entry e at is = ap (λ o. entry_by c (kind_of c e) (option_map (modes_of m) o)) (null_row r e (kind_of c e) (has_type laws c code alone lines set n g e at) is)
-
   -- a reference to what begins with this, or NULL
   record Begins (content : Content) (e : Expression) : Type 0 where
     type : StaticType
@@ -75,7 +39,7 @@ module _ (laws : Laws) (c : Context) (code : Code) (alone : ℕ → Bool) (lines
   none_mentioned s none p h = absurd (subst (SomeNames p) none h)
 
   begins_null : (content : Content) (e : Expression) → At e → kind_of c e ≡ null → HasFirst z content → Begins content e
-  begins_null content e at is w = record { type = w.0; ref = ap is_reference is; goes = inl (null_entry e at is); inside = none_mentioned w.0 w.1; first = w.2 }
+  begins_null content e at is w = record { type = w.0; ref = ap is_reference is; goes = inl (ap (entry_by c (kind_of c e)) (null_modes m e is)); inside = none_mentioned w.0 w.1; first = w.2 }
 
   no_integer : (b : Base) (k : Kind) → is_pointer k ≡ true → k ≡ object b 0 → ⊥
   no_integer b k leads is = false≢true (sym (ap is_pointer is) ∙ leads)

@@ -1,5 +1,5 @@
 -- The rows of expressions and of what is declared: how many targets they have, and that the first one's shape is one of the program.
-use Rattle.sharc_accepted_laws.proofs.{Imports.{◌≡◌, ℕ, zero, suc, ◌+◌, ◌-◌, ◌<◌, ◌≤◌, ◌==◌, eqb-true, Bool, true, false, cond, List, [], ◌∷◌, length, map, take, drop, refl, ap, sym, ◌∙◌, subst, arith, Option, Some, None, Contains, eqb-false, AllByRecursion, Base, Mode, Declaration, WrittenType, Identifier, Dot, Arrow, Constant, Number, Character, Null, NumberType, GlobalDefinition, GlobalForm, Array, expressions, in_function, Expression, Function, Named, Role, Kind, object, array, is_array, declared_kind, int, global_kind, Entity, Numbered, declared, cast_entity, result_of, entities_in, entity_at, positions_of, first_depth, constant_kind, number_kind, Resolution, named_at, declaration_at, globals_in, functions_in, structs_in, kind_at, Callee, of_program, of_conditions, Common, both_shorter, HasType, IsMemberOf, IsFound, EachTypeFound, MeetsConstraints, OneType, Assignment, position_count, base_of, PathReading, written, Targets, no_row, deeper, targets_from, entity_row, declared_row, global_row, named_row, result_row, called_row, behind, constant_row, reading_through, base_use, row_at, modes_of, IsEntity, IsRowOf, ExpressionsFound, VariablesFound, ResultsFound, Form, form_of, row_shape, shapes, stars_in, same_some, none_some, front, of_each, to_each}, Fits.entity_there, TargetForms.{mode_form, row_forms, row_length, same_forms}, Found.{IsThere, is_there, field_found, global_found}, TargetLists.place_there, Numbers.shapes_closed, Settling.{positioned, dropped_length}, TargetWalk.{CastFound, declaration_found, function_casts, function_closed, result_found}, Laying.{named_there as struct_there}, StaticSiblings.{found_there as member_there}}
+use Rattle.sharc_accepted_laws.proofs.{Imports.{◌≡◌, ℕ, zero, suc, ◌+◌, ◌-◌, ◌<◌, ◌≤◌, ◌==◌, eqb-true, Bool, true, false, cond, List, [], ◌∷◌, length, map, take, drop, refl, ap, sym, ◌∙◌, subst, arith, Option, Some, None, Contains, eqb-false, AllByRecursion, Base, Mode, Declaration, WrittenType, Identifier, Dot, Arrow, Constant, Number, Character, Null, NumberType, GlobalDefinition, GlobalForm, Array, expressions, in_function, Expression, Function, Named, Role, Kind, object, array, is_array, declared_kind, int, global_kind, Entity, Numbered, declared, cast_entity, result_of, entities_in, entity_at, positions_of, first_depth, constant_kind, number_kind, Resolution, named_at, declaration_at, globals_in, functions_in, structs_in, kind_at, Callee, of_program, of_conditions, Common, both_shorter, HasType, IsMemberOf, IsFound, EachTypeFound, MeetsConstraints, OneType, Assignment, position_count, base_of, PathReading, written, Targets, no_row, deeper, targets_from, entity_row, declared_row, global_row, named_row, result_row, called_row, behind, constant_row, reading_through, base_use, row_at, modes_of, IsEntity, IsRowOf, ExpressionsFound, VariablesFound, ResultsFound, Form, form_of, row_shape, shapes, stars_in, same_some, none_some, front, of_each, to_each, place_there}, Fits.entity_there, TargetForms.{mode_form, row_forms, row_length, same_forms}, Found.{IsThere, is_there, field_found, global_found}, Numbers.shapes_closed, Settling.{positioned, dropped_length}, TargetWalk.{CastFound, declaration_found, function_casts, function_closed, result_found}, Laying.named_there as struct_there, StaticSiblings.found_there as member_there}
 use Rattle.sharc_names.specs.Kinds as kinds
 use Rattle.sharc_ctype_laws.specs.Constraints as typing
 
@@ -19,20 +19,18 @@ module _ (m : Assignment) where
 
   deeper_by : (b : Base) (n first count : ℕ) (how : PathReading) → count ≡ n + 1 → IsRowOf m (object b (n + 1)) (made first count how) → IsRowOf m (object b n) (made (first + 1) (count - 1) how)
   deeper_by b n first count how many w =
-      let ends = w.ends in
       record {
-        ends = omega (arith, ends, many);
+        ends = omega (arith, w.ends, many);
         count = omega (arith, many);
         there = λ some. below (omega (arith, some, many));
       }
     where
       below : 0 < count - 1 → Contains (shapes m) (row_shape m b (made (first + 1) (count - 1) how))
       below some =
-          let ends = w.ends in
           let e : suc (count - 1) ≡ count = omega (arith, some) in
-          let t = tail_forms (count - 1) first m.modes (omega (arith, ends, e)) in
+          let t = tail_forms (count - 1) first m.modes (omega (arith, w.ends, e)) in
           let whole : map mode_form (take count (drop first m.modes)) ≡ t.0 ∷ map mode_form (take (count - 1) (drop (first + 1) m.modes)) = ap (λ k. map mode_form (take k (drop first m.modes))) (sym e) ∙ t.1 in
-          let size : length (map mode_form (take (count - 1) (drop (first + 1) m.modes))) ≡ count - 1 = sym (ap length (row_forms m (made (first + 1) (count - 1) how))) ∙ row_length m (made (first + 1) (count - 1) how) (omega (arith, ends, e)) in
+          let size : length (map mode_form (take (count - 1) (drop (first + 1) m.modes))) ≡ count - 1 = sym (ap length (row_forms m (made (first + 1) (count - 1) how))) ∙ row_length m (made (first + 1) (count - 1) how) (omega (arith, w.ends, e)) in
           let positive : 0 < count = omega (arith, some) in
           subst (λ fs. Contains (shapes m) (record { base = b; forms = fs })) (sym (row_forms m (made (first + 1) (count - 1) how)))
           (closed_at m b t.0 (map mode_form (take (count - 1) (drop (first + 1) m.modes))) (omega (arith, size, some))

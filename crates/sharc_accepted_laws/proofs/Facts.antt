@@ -1,5 +1,5 @@
 -- What is known of each expression of a function of an accepted program.
-use Rattle.sharc_accepted_laws.proofs.{Imports.{◌≡◌, ℕ, Bool, true, false, List, refl, ap, sym, ◌∙◌, subst, option_map, Option, Some, None, Contains, false≢true, Site, is_lvalue, expressions, in_function, span_of, Expression, Function, is_pointer, element_kind, Code, Use, Resolution, functions_in, HasType as IsOfType, MeetsConstraints, MeetsGlobals, OneType, EachNamesItself, EachNamesOwn, ArePlain, SpawnsNameFunctions, SpawnsThreads, element_cells, Assignment, Targets, modes_of, row_at, modes_at, Sharing, IsFunction, IsExpression, IsTaken, kind_of, is_ref, target_of, mode_of, lvalue_in, guard_of, Target, Context, IsScalar, is_cell, TakeSuits, StaticType, cells_of, Refers, Setting, ReferenceTyped, type_by, ground_of, IsPointer, ValueTyped, Takes, BaseStands, IsOf, BasesStand, ArgumentsFit, IsAccepted, ResultLaws, ScopeLaws, ExpressionStands, FunctionsStand, SpawnedBegin, static_of, entry_by, entry_of, LocksStandBeside, ExpressionsFound, GlobalsAre, LvaluesFit, ArraysFit, pointee, PointeesFit, targets_of, CallingLaws, IsAt, ValueLaws, TakingLaws, ThreadsPass, typing, CellsTyped, setting_of, IsSet, each}, Forms.{lvalue_some, reference_pointer}, Members.first_of, Wholes.{facts_of, variable_named}, TargetLists.place_there}
+use Rattle.sharc_accepted_laws.proofs.{Imports.{◌≡◌, ℕ, Bool, true, false, List, refl, ap, sym, ◌∙◌, subst, option_map, Option, Some, None, Contains, false≢true, Site, is_lvalue, expressions, in_function, span_of, Expression, Function, is_pointer, element_kind, Code, Use, Resolution, functions_in, HasType as IsOfType, MeetsConstraints, MeetsGlobals, OneType, EachNamesItself, EachNamesOwn, ArePlain, SpawnsNameFunctions, SpawnsThreads, element_cells, Assignment, Targets, modes_of, row_at, modes_at, Sharing, IsFunction, IsExpression, IsTaken, kind_of, is_ref, target_of, mode_of, lvalue_in, guard_of, Target, Context, IsScalar, is_cell, TakeSuits, StaticType, cells_of, Refers, Setting, ReferenceTyped, type_by, ground_of, IsPointer, ValueTyped, Takes, BaseStands, IsOf, BasesStand, ArgumentsFit, IsAccepted, ResultLaws, ScopeLaws, ExpressionStands, FunctionsStand, SpawnedBegin, static_of, entry_by, entry_of, LocksStandBeside, ExpressionsFound, GlobalsAre, LvaluesFit, ArraysFit, pointee, PointeesFit, targets_of, CallingLaws, IsAt, ValueLaws, TakingLaws, ThreadsPass, typing, CellsTyped, setting_of, IsSet, each, place_there}, Forms.{lvalue_some, reference_pointer}, Members.first_of, Wholes.{facts_of, variable_named}}
 use Rattle.sharc_flat.specs.Places.{variable}
 use Rattle.sharc_typed_laws.specs.Typable.{CellTyped}
 use Rattle.sharc_accepted_laws.proofs.Wholes as wholes

@@ -1,5 +1,5 @@
 -- The fields of elements that are accessed are fields of them, and so is that with the mutex, or the pointer to it, of the same element.
-use Rattle.sharc_accepted_laws.proofs.{Imports.{◌≡◌, inl, inr, ℕ, ◌<◌, false, List, [], ◌∷◌, length, get_or as slice_index_or, refl, ap, sym, ◌∙◌, subst, arith, option_map, Option, Some, None, Contains, Expression, is_array, is_struct_behind, elements_of, Resolution, named_at, globals_in, global_at, kind_at, MeetsGlobal, MeetsGlobals, field_place, is_mutex_kind, cell_at, Assignment, modes_of, modes_at, Lock, Sharing, locked, IsExpression, kind_of, guard_of, Target, in_global_at, in_object_at, target, beside_named, beside_field, Context, Field, FieldMode, no_field, row_of, cells_of, field_at, Setting, type_by, AreFields, list_or, modes_of_pointer, cells_in_each, LockLeads, to_global, to_variable, PathLeads, IsAccepted, entry_by, entry_of, BesideFits, AreLockedBeside, LocksStandBeside, ExpressionsFound, GlobalsAre, pointer_of, IsOfObject, IsOfGlobal, ModeFits, locked_by_type, locked_by_global, locked_by_sibling, locked_behind, FieldFits, IsBehindPointer, IsInFile, NamesCell, no_cell, of_object, of_global, LvaluesFit, expression_shape, shapes, number, global_element, targets_of, typing, same_some, none_some, of_each}, TargetLists.place_there}
+use Rattle.sharc_accepted_laws.proofs.Imports.{◌≡◌, inl, inr, ℕ, ◌<◌, false, List, [], ◌∷◌, length, get_or as slice_index_or, refl, ap, sym, ◌∙◌, subst, arith, option_map, Option, Some, None, Contains, Expression, is_array, is_struct_behind, elements_of, Resolution, named_at, globals_in, global_at, kind_at, MeetsGlobal, MeetsGlobals, field_place, is_mutex_kind, cell_at, Assignment, modes_of, modes_at, Lock, Sharing, locked, IsExpression, kind_of, guard_of, Target, in_global_at, in_object_at, target, beside_named, beside_field, Context, Field, FieldMode, no_field, row_of, cells_of, field_at, Setting, type_by, AreFields, list_or, modes_of_pointer, cells_in_each, LockLeads, to_global, to_variable, PathLeads, IsAccepted, entry_by, entry_of, BesideFits, AreLockedBeside, LocksStandBeside, ExpressionsFound, GlobalsAre, pointer_of, IsOfObject, IsOfGlobal, ModeFits, locked_by_type, locked_by_global, locked_by_sibling, locked_behind, FieldFits, IsBehindPointer, IsInFile, NamesCell, no_cell, of_object, of_global, LvaluesFit, expression_shape, shapes, number, global_element, targets_of, typing, same_some, none_some, of_each, place_there}
 
 -- ---- of what an lvalue names
 module _ (z : Setting) (n : ℕ) (c : Context) where

@@ -1,5 +1,5 @@
 -- In a well-moded program no shape has a racy pointer or struct, nor a private target below one that is not.
-use Rattle.sharc_accepted_laws.proofs.{Imports.{◌≡◌, ◌⊎◌, inl, inr, ⊎_elim, ℕ, zero, suc, ◌+◌, ◌-◌, ◌<◌, true, List, [], ◌∷◌, length, map, get_or as slice_index_or, refl, ap, sym, ◌∙◌, subst, arith, Option, Some, None, Contains, false≢true, cases_lt, AllByRecursion, slice_get, Base, Mode, Private, Racy, Role, is_struct_base, Numbered, entities_in, numbered, positions_of, written_modes, first_depth, IsLeastAssignment, Assignment, IsBelow, written, entity_row, modes_of, settled, field_target, otherwise_of, settled_modes, IsEntity, IsWritten, MeetsRules, Form, private_form, racy_form, Shape, form_of, shapes_down, entity_shapes, shapes_of, shapes, is_private_form, both, head_there, head_or_tail, tail_there, none_there}, TargetForms.{mode_form, IsLevel, skipped, level_of}, TargetLists.{left_there, right_there}, Settling.{positioned, racy_found, private_found, SettledAt, settled_by, IsLast, SettledBy, a_mutex, is_written, is_meant, settled_from, never_open, get_dropped, dropped_length, otherwise_top}}
+use Rattle.sharc_accepted_laws.proofs.{Imports.{◌≡◌, ◌⊎◌, inl, inr, ⊎_elim, ℕ, zero, suc, ◌+◌, ◌-◌, ◌<◌, true, List, [], ◌∷◌, length, map, get_or as slice_index_or, refl, ap, sym, ◌∙◌, subst, arith, Option, Some, None, Contains, false≢true, cases_lt, AllByRecursion, slice_get, Base, Mode, Private, Racy, Role, is_struct_base, Numbered, entities_in, numbered, positions_of, written_modes, first_depth, IsLeastAssignment, Assignment, IsBelow, written, entity_row, modes_of, settled, field_target, otherwise_of, settled_modes, IsEntity, IsWritten, MeetsRules, Form, private_form, racy_form, Shape, form_of, shapes_down, entity_shapes, shapes_of, shapes, is_private_form, both, head_there, head_or_tail, tail_there, none_there, left_there, right_there}, TargetForms.{mode_form, IsLevel, skipped, level_of}, Settling.{positioned, racy_found, private_found, SettledAt, settled_by, IsLast, SettledBy, a_mutex, is_written, is_meant, settled_from, never_open, get_dropped, dropped_length, otherwise_top}}
 
 -- ---- forms of modes
 pub form_racy : (mode : Mode) → mode_form mode ≡ racy_form → mode ≡ Racy
@@ -92,15 +92,13 @@ module _ (m : Assignment) (least : IsLeastAssignment m) (rules : MeetsRules m) w
     pair_racy : (k : ℕ) (f g : Form) → IsLevel m n k f → IsLevel m n (suc k) g → f ≡ racy_form → ⊥
     pair_racy k f g l next is =
         let low = l.inside in
-        let more = next.inside in
         let many = counted in
-        never_racy (skipped n.entity.role + k) low (inl (omega (arith, more, many))) (at_mode k f l Racy (form_racy l.at.mode (l.at.form ∙ is)))
+        never_racy (skipped n.entity.role + k) low (inl (omega (arith, next.inside, many))) (at_mode k f l Racy (form_racy l.at.mode (l.at.form ∙ is)))
 
     pair_private : (k : ℕ) (f g : Form) → IsLevel m n k f → IsLevel m n (suc k) g → is_private_form g ≡ true → f ≡ private_form
     pair_private k f g l next is =
-        let more = next.inside in
         let below : IsBelow m.typed (n.first + (skipped n.entity.role + k)) (n.first + (skipped n.entity.role + suc k)) =
-        record { of = n; stands = is_entity; depth = skipped n.entity.role + k; inside = omega (arith, more); first = refl; second = omega arith } in
+        record { of = n; stands = is_entity; depth = skipped n.entity.role + k; inside = omega (arith, next.inside); first = refl; second = omega arith } in
         let private : l.at.mode ≡ Private = rules.m3.positions _ _ l.at.mode below l.at.at (at_mode (suc k) g next Private (form_private next.at.mode (next.at.form ∙ private_form_is g is))) in
         sym l.at.form ∙ ap mode_form private
 

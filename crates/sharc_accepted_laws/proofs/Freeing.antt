@@ -98,10 +98,8 @@ members_laid m q pointers at fields low same = record {
     found k inside is =
         let d = some_there fields k inside in
         let w = pointer_place 0 fields k d.0 d.1 (sym (holds_at k d.0 d.1) ∙ is) in
-        let less = w.1 in
-        let value = w.2 in
         let there = same w.0 w.1 in
-        (at + w.0, omega arith, omega (arith, less), omega (arith, there, value))
+        (at + w.0, omega arith, omega (arith, w.1), omega (arith, there, w.2))
 
     all : (k : ℕ) → is_pointer (slice_index_or (members m q 0 fields) k no_field).holds ≡ true → (i : ℕ) × (at ≤ i) × (i < at + length (pointers_among 0 fields)) × (slice_index pointers i ≡ k)
     all k is =
@@ -112,9 +110,8 @@ members_laid m q pointers at fields low same = record {
     only i first last =
         let e : at + (i - at) ≡ i = omega (arith, first) in
         let w = pointer_there 0 fields (i - at) (omega (arith, first, last)) in
-        let place = w.place in
         let value : slice_index pointers i ≡ slice_index (pointers_among 0 fields) (i - at) = ap (slice_index pointers) (sym e) ∙ same (i - at) (omega (arith, first, last)) in
-        let which : slice_index pointers i ≡ w.k = omega (arith, value, place) in
+        let which : slice_index pointers i ≡ w.k = omega (arith, value, w.place) in
         ap (λ j. is_pointer (slice_index_or (members m q 0 fields) j no_field).holds) which ∙ holds_at w.k w.d w.is ∙ w.pointer
 
 -- ---- the layouts of structs
@@ -200,9 +197,8 @@ module _ (m : Assignment) (few : 1 + length (all_pointers (structs_in m.typed.pr
 pub layouts_are : WithinLimits → LayoutsAre
 layouts_are limits m typed code tables s has =
     let within = limits m.typed.program typed in
-    let structs_few = within.structs in
     let total = pointers_few (structs_in m.typed.program.items) within.fields in
-    let laid = shape_laid m (omega (arith, structs_few, total)) s.base s.forms (has_forms m s has) in
+    let laid = shape_laid m (omega (arith, within.structs, total)) s.base s.forms (has_forms m s has) in
     let row = numbers_found m s has in
     let fields_is : (row_of (targets_of m) (number m s)).fields ≡ shape_fields m s.base s.forms = ap (λ (t : Target). t.fields) row.row in
     moved m code (layout_of (structs_in m.typed.program.items) (kind_of s)) (number m s) (shape_fields m s.base s.forms) tables.layouts tables.pointers fields_is laid

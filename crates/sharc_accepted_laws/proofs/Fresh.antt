@@ -43,11 +43,7 @@ fresh_below k t low (x ∷ rest) h = by (x.token == t) refl (fresh_below k t low
 -- what follows others begins behind where they begin
 last_follows : (all : List Token) (from until : ℕ) (xs : List Span) (b : Span) → Follow all from until (xs ++ b ∷ []) → from ≤ b.first.token
 last_follows all from until [] b h = h.1
-last_follows all from until (x ∷ xs) b h =
-    let later = last_follows all (x.last.token + 1) until xs b h.3 in
-    let order = h.0.order in
-    let first = h.1 in
-    omega (arith, later, order, first)
+last_follows all from until (x ∷ xs) b (span, first, _, follow) = omega (arith, span.order, first, last_follows all (x.last.token + 1) until xs b follow)
 
 module _ (all : List Token) where
   record Between (from until : ℕ) (l : Local) : Type 0 where
@@ -55,56 +51,38 @@ module _ (all : List Token) where
     high : l.declaration.name.site.token < until
 
   declared_between : (d : Declaration) → PlacedDeclaration all d → (d.span.first.token ≤ d.name.site.token) × (d.name.site.token < d.span.last.token + 1)
-  declared_between d p = let w = named_within all d p in let high = w.1 in (w.0, omega (arith, high))
+  declared_between d p = let w = named_within all d p in (w.0, omega (arith, w.1))
 
   local_between : (l : Local) → PlacedLocal all l → Between l.span.first.token (l.span.last.token + 1) l
-  local_between l p =
-      let d = declared_between l.declaration p.1 in
-      let parts = p.0.1 in
-      let from = parts.1 in
-      let until = parts.2 in
-      let low = d.0 in
-      let high = d.1 in
-      record { low = omega (arith, from, low); high = omega (arith, until, high) }
+  local_between l ((_, (_, from, until, _)), p, _) = let d = declared_between l.declaration p in record { low = omega (arith, from, d.0); high = omega (arith, until, d.1) }
 
   -- one variable more
   with_local : (k n : ℕ) (c : Context) (l : Local) → k ≤ n → Below k c.scope → l.declaration.name.site.token < n → Below n (c.scope ++ slot_of l.declaration ∷ [])
   with_local k n c l low below high = both (λ (s : Slot). s.token < n) c.scope (slot_of l.declaration ∷ []) (raised k n low c.scope below) (high, tt)
 
   fresh_local : (k : ℕ) (c : Context) (l : Local) → Below k c.scope → k ≤ l.span.first.token → PlacedLocal all l → LocalFresh c l
-  fresh_local k c l below low p =
-      let b = local_between l p in
-      let first = b.low in
-      fresh_below k l.declaration.name.site.token (omega (arith, first, low)) c.scope below
+  fresh_local k c l below low p = fresh_below k l.declaration.name.site.token (omega (arith, low, (local_between l p).low)) c.scope below
 
   -- the head of a loop and its body
   fresh_loop : (k from until : ℕ) (c : Context) (x : First) (tests steps : List Span) (a : Statement) → Below k c.scope → k ≤ from → Follow all from until (((first_spans x ++ tests) ++ steps) ++ span_of_statement a ∷ [])
       → PlacedFirst all x → ((n : ℕ) (d : Context) → Below n d.scope → n ≤ (span_of_statement a).first.token → StatementFresh d a) → FirstFresh c x × StatementFresh (behind_first c x) a
-  fresh_loop k from until c nothing tests steps a below low f q body = let first = last_follows all from until (tests ++ steps) (span_of_statement a) f in (tt, body k c below (omega (arith, first, low)))
-  fresh_loop k from until c (declares l) tests steps a below low f q body =
-      let first = f.1 in
-      let order = f.0.order in
-      let b = local_between l q in
-      let high = b.high in
-      let later = last_follows all (l.span.last.token + 1) until (tests ++ steps) (span_of_statement a) f.3 in
-      (fresh_local k c l below (omega (arith, first, low)) q, body (l.span.last.token + 1) (with_variable c l.declaration) (with_local k (l.span.last.token + 1) c l (omega (arith, first, low, order)) below high) later)
-  fresh_loop k from until c (does x) tests steps a below low f q body =
-      let first = last_follows all from until (span_of_simple x ∷ (tests ++ steps)) (span_of_statement a) f in
-      (tt, body k c below (omega (arith, first, low)))
+  fresh_loop k from until c nothing tests steps a below low f q body = (tt, body k c below (omega (arith, low, last_follows all from until (tests ++ steps) (span_of_statement a) f)))
+  fresh_loop k from until c (declares l) tests steps a below low (span, first, _, follow) q body = (
+    fresh_local k c l below (omega (arith, first, low)) q,
+    body (l.span.last.token + 1) (with_variable c l.declaration) (with_local k (l.span.last.token + 1) c l (omega (arith, first, low, span.order)) below (local_between l q).high) (last_follows all (l.span.last.token + 1) until (tests ++ steps) (span_of_statement a) follow),
+  )
+  fresh_loop k from until c (does x) tests steps a below low f q body = (tt, body k c below (omega (arith, low, last_follows all from until (span_of_simple x ∷ (tests ++ steps)) (span_of_statement a) f)))
 
   mutual
     fresh_statement : (k : ℕ) (c : Context) (a : Statement) → Below k c.scope → k ≤ (span_of_statement a).first.token → PlacedStatement all a → StatementFresh c a
     fresh_statement k c (tree.block s inner) below low p = fresh_statements s.first.token (s.last.token + 1) c inner (raised k s.first.token low c.scope below) p.0.1 p.1
-    fresh_statement k c (tree.declare s l) below low p = let first = p.0.1.1 in fresh_local k c l below (omega (arith, first, low)) p.1
-    fresh_statement k c (tree.if_then s e a) below low p = let first = last_follows all s.first.token (s.last.token + 1) (span_of e ∷ []) (span_of_statement a) p.0.1 in fresh_statement k c a below (omega (arith, first, low)) p.2
-    fresh_statement k c (tree.if_then_else s e a b) below low p =
-        let test = p.0.1 in
-        let order = test.0.order in
-        let front = test.1 in
-        let body = test.3.1 in
-        let first = last_follows all s.first.token (s.last.token + 1) (span_of e ∷ span_of_statement a ∷ []) (span_of_statement b) p.0.1 in
-        (fresh_statement k c a below (omega (arith, order, front, body, low)) p.2, fresh_statement k c b below (omega (arith, first, low)) p.3)
-    fresh_statement k c (tree.while s e a) below low p = let first = last_follows all s.first.token (s.last.token + 1) (span_of e ∷ []) (span_of_statement a) p.0.1 in fresh_statement k c a below (omega (arith, first, low)) p.2
+    fresh_statement k c (tree.declare s l) below low ((_, (_, first, _, _)), p) = fresh_local k c l below (omega (arith, first, low)) p
+    fresh_statement k c (tree.if_then s e a) below low ((_, follow), _, p) = fresh_statement k c a below (omega (arith, low, last_follows all s.first.token (s.last.token + 1) (span_of e ∷ []) (span_of_statement a) follow)) p
+    fresh_statement k c (tree.if_then_else s e a b) below low ((_, follow), _, p, q) = (
+      fresh_statement k c a below (omega (arith, follow.0.order, follow.1, follow.3.1, low)) p,
+      fresh_statement k c b below (omega (arith, low, last_follows all s.first.token (s.last.token + 1) (span_of e ∷ span_of_statement a ∷ []) (span_of_statement b) follow)) q,
+    )
+    fresh_statement k c (tree.while s e a) below low ((_, follow), _, p) = fresh_statement k c a below (omega (arith, low, last_follows all s.first.token (s.last.token + 1) (span_of e ∷ []) (span_of_statement a) follow)) p
     fresh_statement k c (tree.for s h a) below low p = fresh_loop k s.first.token (s.last.token + 1) c h.first (option_spans span_of h.test) (option_spans span_of_simple h.step) a below low p.0.1 p.1.0 (λ n d b2 low2. fresh_statement n d a b2 low2 p.2)
     fresh_statement k c _ below low p = tt
 
@@ -116,29 +94,14 @@ module _ (all : List Token) where
     -- behind a statement
     after : (k : ℕ) (c : Context) (a : Statement) → Below k c.scope → k ≤ (span_of_statement a).first.token → (span_of_statement a).first.token ≤ (span_of_statement a).last.token → PlacedStatement all a
         → Below ((span_of_statement a).last.token + 1) (behind_statement c a).scope
-    after k c (tree.empty s) below low order p = raised k (s.last.token + 1) (omega (arith, low, order)) c.scope below
-    after k c (tree.block s inner) below low order p = raised k (s.last.token + 1) (omega (arith, low, order)) c.scope below
-    after k c (tree.declare s l) below low order p =
-        let b = local_between l p.1 in
-        let high = b.high in
-        let inner = p.0.1.2 in
-        with_local k (s.last.token + 1) c l (omega (arith, low, order)) below (omega (arith, high, inner))
-    after k c (tree.simple s x) below low order p = raised k (s.last.token + 1) (omega (arith, low, order)) c.scope below
-    after k c (tree.jump s j) below low order p = raised k (s.last.token + 1) (omega (arith, low, order)) c.scope below
-    after k c (tree.return s e) below low order p = raised k (s.last.token + 1) (omega (arith, low, order)) c.scope below
-    after k c (tree.if_then s e a) below low order p = raised k (s.last.token + 1) (omega (arith, low, order)) c.scope below
-    after k c (tree.if_then_else s e a b) below low order p = raised k (s.last.token + 1) (omega (arith, low, order)) c.scope below
-    after k c (tree.while s e a) below low order p = raised k (s.last.token + 1) (omega (arith, low, order)) c.scope below
-    after k c (tree.for s h a) below low order p = raised k (s.last.token + 1) (omega (arith, low, order)) c.scope below
+    after k c (tree.declare s l) below low order ((_, (_, _, inner, _)), p) = with_local k (s.last.token + 1) c l (omega (arith, low, order)) below (omega (arith, inner, (local_between l p).high))
+    after k c a below low order p = raised k ((span_of_statement a).last.token + 1) (omega (arith, low, order)) c.scope below
 
   -- ---- functions
   parameters_below : (from until : ℕ) (ds : List Declaration) (b : Span) → Follow all from until (declaration_spans ds ++ b ∷ []) → PlacedDeclarations all ds → Below b.first.token (parameters_scope ds)
   parameters_below from until [] b f p = tt
-  parameters_below from until (d ∷ rest) b f p =
-      let name = declared_between d p.0 in
-      let high = name.1 in
-      let later = last_follows all (d.span.last.token + 1) until (declaration_spans rest) b f.3 in
-      (omega (arith, high, later), parameters_below (d.span.last.token + 1) until rest b f.3 p.1)
+  parameters_below from until (d ∷ rest) b (_, _, _, follow) p =
+      (omega (arith, (declared_between d p.0).1, last_follows all (d.span.last.token + 1) until (declaration_spans rest) b follow), parameters_below (d.span.last.token + 1) until rest b follow p.1)
 
   fresh_function : (f : Function) → PlacedItem all (function f) → (c : Context) → c.scope ≡ parameters_scope f.parameters → StatementsFresh c f.statements
   fresh_function f p c is =

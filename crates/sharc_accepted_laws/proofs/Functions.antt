@@ -1,5 +1,5 @@
 -- Functions: what their first registers hold, what they give, and their statements.
-use Rattle.sharc_accepted_laws.proofs.{Imports.{◌≡◌, ℕ, zero, suc, ◌<◌, Bool, true, false, cond, List, [], ◌∷◌, ◌++◌, length, nat_lt, slice_get, refl, ap, sym, ◌∙◌, subst, arith, ltb-true, ltb-false, Option, Some, None, AllByRecursion, LowItems, LowStatements, in_function, Function, Item, structure, global, function, Named, declared_kind, GlobalCells, Resolution, functions_in, function_at, declaration_at, variable_kind, IsFair, function_transfers, IsItself, AllFair, ArePlain, EachNamesItself, EachNamesOwn, MeetsConstraints, MeetsStatements, is_reference, Assignment, written, declared_row, modes_of, IsFunction, parameters_scope, width_of, Context, ref_count, TypedSuits, Empty, Refers, Anything, Within, Signature, Setting, type_by, label_of, GivesBackBy, FunctionTypable, held_at, ResultLaws, AllStand, DeclaredStands, FunctionStands, FunctionsStand, pointers, variable_entry, entry_named, result_type, VariablesFound, typing, function_signature, setting_of, IsSet, IsPlaceIn, AreExpressionsTypable, none_some, back, of_each, to_each}, Assigned.Laws, Fresh.{StatementsFresh, fresh_functions}, Locals.in_each, Members.own_elements, Stated.{Does, Own, AllGiven, statements_are, signature_is, result_is}, Wholes.{Facts, facts_of}, StaticRegisters.{pointer_count, split}, TargetLists.place_there}
+use Rattle.sharc_accepted_laws.proofs.{Imports.{◌≡◌, ℕ, zero, suc, ◌<◌, Bool, true, false, cond, List, [], ◌∷◌, ◌++◌, length, nat_lt, slice_get, refl, ap, sym, ◌∙◌, subst, arith, ltb-true, ltb-false, Option, Some, None, AllByRecursion, LowItems, LowStatements, in_function, Function, Item, structure, global, function, Named, declared_kind, GlobalCells, Resolution, functions_in, function_at, declaration_at, variable_kind, IsFair, function_transfers, IsItself, AllFair, ArePlain, EachNamesItself, EachNamesOwn, MeetsConstraints, MeetsStatements, is_reference, Assignment, written, declared_row, modes_of, IsFunction, parameters_scope, width_of, Context, ref_count, TypedSuits, Empty, Refers, Anything, Within, Signature, Setting, type_by, label_of, GivesBackBy, FunctionTypable, held_at, ResultLaws, AllStand, DeclaredStands, FunctionStands, FunctionsStand, pointers, variable_entry, entry_named, result_type, VariablesFound, typing, function_signature, setting_of, IsSet, IsPlaceIn, AreExpressionsTypable, none_some, back, of_each, to_each, place_there}, Assigned.Laws, Fresh.{StatementsFresh, fresh_functions}, Locals.in_each, Members.own_elements, Stated.{Does, Own, AllGiven, statements_are, signature_is, result_is}, Wholes.{Facts, facts_of}, StaticRegisters.{pointer_count, split}}
 use Rattle.sharc_ctype.specs.Statements as ctype
 use Rattle.sharc_ctype_laws.specs.Rules.{MeetsRules}
 use Rattle.sharc_check.specs.Constructs.{locals_in_all}

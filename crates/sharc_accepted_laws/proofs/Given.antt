@@ -1,5 +1,5 @@
 -- What is assigned, begun with and returned has the type of what it is given to.
-use Rattle.sharc_accepted_laws.proofs.{Imports.{◌≡◌, inl, inr, ℕ, ◌==◌, Bool, true, false, cond, List, ◌++◌, refl, ap, sym, ◌∙◌, subst, option_map, arith, eqb-true, Option, Some, None, Contains, false≢true, and_parts, ltb-true, AllByRecursion, Base, Declaration, Number, Null, Negate, Complement, Dereference, GlobalForm, Array, GlobalDefinition, Expression, value, Local, Function, Named, Kind, object, array, null, same_base, same_kind, is_integer, is_integral, is_pointer, is_null, is_long, is_array, long, int, agrees, element_kind, declared_kind, global_kind, OperatorClass, Shift, Arithmetic, class_of, binary_result, Resolution, named_at, global_at, function_at, declaration_at, functions_in, variable_kind, global_kind_of, result_kind_of, named_kind, called_kind, kind_at, Transfer, lvalue, variable, result, function_transfers, IsFair, locals_in_all as declared_in_all, Assignment, base_of, written, declared_row, behind, row_at, modes_of, modes_at, Sharing, same_all, IsFunction, IsGiven, assigned, initial, returned, RulesAreMet, MeetsRules, IsItself, EachNamesItself, AllFair, Context, static_of, entry_by, entry_of, IsAccepted, AssignedGoes, BegunGoes, ReturnedGoes, GivenLaws, Refers, none_some, front, back, of_each}, Same.type_of_same, Transferred.{Begins, locals_begin}, Locals.{OfLocal, in_each}, Alike.{base_is as same_bases}, Conditions.{number_no_null as no_number}}
+use Rattle.sharc_accepted_laws.proofs.{Imports.{NumberType, number_kind, ◌≡◌, inl, inr, ℕ, ◌==◌, Bool, true, false, cond, List, ◌++◌, refl, ap, sym, ◌∙◌, subst, option_map, arith, eqb-true, Option, Some, None, Contains, false≢true, and_parts, ltb-true, AllByRecursion, Base, Declaration, Number, Null, Negate, Complement, Dereference, GlobalForm, Array, GlobalDefinition, Expression, value, Local, Function, Named, Kind, object, array, null, same_base, same_kind, is_integer, is_integral, is_pointer, is_null, is_long, is_array, long, int, agrees, element_kind, declared_kind, global_kind, OperatorClass, Shift, Arithmetic, class_of, binary_result, Resolution, named_at, global_at, function_at, declaration_at, functions_in, variable_kind, global_kind_of, result_kind_of, named_kind, called_kind, kind_at, Transfer, lvalue, variable, result, function_transfers, IsFair, locals_in_all as declared_in_all, Assignment, base_of, written, declared_row, behind, row_at, modes_of, modes_at, Sharing, same_all, IsFunction, IsGiven, assigned, initial, returned, RulesAreMet, MeetsRules, IsItself, EachNamesItself, AllFair, Context, static_of, entry_by, entry_of, IsAccepted, AssignedGoes, BegunGoes, ReturnedGoes, GivenLaws, Refers, none_some, front, back, of_each}, Same.type_of_same, Transferred.{Begins, locals_begin}, Locals.{OfLocal, in_each}, Alike.{base_is as same_bases}}
 use Rattle.sharc_tree.specs.Tree as tree
 use Rattle.sharc_names.specs.Kinds.{function}
 use Rattle.sharc_check.specs.Constructs.{locals_in_all}
@@ -33,8 +33,15 @@ fair want kind p h = by (is_null kind) refl (is_integer kind) refl h
     by false is false integer a = is_like (bases_of_same want kind a) a
 
 -- ---- NULL has no row
+pub no_object : (b : Base) (n : ℕ) → object b n ≡ null → ⊥
+no_object b n h = cc
+
 pub no_array : (b : Base) (n : ℕ) → array b n ≡ null → ⊥
 no_array b n h = cc
+
+no_number : (t : NumberType) → number_kind t ≡ null → ⊥
+no_number NumberType.Int h = cc
+no_number NumberType.Long h = cc
 
 pub no_variable : (d : Option Declaration) → variable_kind d ≡ null → ⊥
 no_variable None h = cc

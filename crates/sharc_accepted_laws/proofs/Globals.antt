@@ -70,12 +70,11 @@ module _ (m : Assignment) (known : IsKnown m) where
     private_top h =
         let at = starts_at (map form_of (modes_of m (entity_row written (Some there.numbered)))) (subst (λ row. starts_private (map form_of (modes_of m row)) ≡ true) row_is h) in
         let l = level_of m there.numbered 0 private_form at in
-        let inside = l.inside in
         let skip = one_skipped in
         let ends = ends_within m known there.numbered there.is_entity in
-        let first = some_there m.modes there.numbered.first (omega (arith, inside, ends)) in
+        let first = some_there m.modes there.numbered.first (omega (arith, l.inside, ends)) in
         let below : IsBelow m.typed there.numbered.first (there.numbered.first + (skipped there.numbered.entity.role + 0)) =
-        record { of = there.numbered; stands = there.is_entity; depth = 0; inside = omega (arith, inside, skip); first = omega arith; second = omega (arith, skip) } in
+        record { of = there.numbered; stands = there.is_entity; depth = 0; inside = omega (arith, l.inside, skip); first = omega arith; second = omega (arith, skip) } in
         let shared : first.0 ≡ Mode.Private = known.rules.m3.positions _ _ first.0 below first.1 (l.at.at ∙ ap Some (form_private l.at.mode l.at.form)) in
         mode_is ∙ ap (λ x. global_mode m.typed (sharing_of x)) ((get_index m.modes there.numbered.first first.0 Mode.Private first.1).1 ∙ shared)
 

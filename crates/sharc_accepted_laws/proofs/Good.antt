@@ -104,10 +104,8 @@ beside_left a b k s p w =
 
 beside_right : (a b : List Field) (k j s p : ℕ) → k ≡ length a + j → IsBeside b j s p → IsBeside (a ++ b) k s p
 beside_right a b k j s p is w =
-    let from = w.from in
-    let inside = w.inside in
     let many = size a b in
-    record { from = omega (arith, from, is); inside = omega (arith, inside, many, is, from); readonly = ap (λ (f : Field). f.mode) (at_right a b (k - s + p) (j - s + p) (omega (arith, is, from))) ∙ w.readonly }
+    record { from = omega (arith, w.from, is); inside = omega (arith, w.inside, many, is, w.from); readonly = ap (λ (f : Field). f.mode) (at_right a b (k - s + p) (j - s + p) (omega (arith, is, w.from))) ∙ w.readonly }
 
 both_beside : (a b : List Field) → AreBeside a → AreBeside b → AreBeside (a ++ b)
 both_beside a b left right k s p low h =
@@ -131,12 +129,11 @@ pub pointer_good : (m : Assignment) (shared : Bool) (q : FieldMode) (s : Shape) 
     → IsGood (targets_of m) shared (record { mode = q; holds = Pointer (record { target = number m s; locks = locks }) })
 pointer_good m shared q s locks has whole below other =
     let w = numbers_found m s has in
-    let low = w.inside in
     let to_is : (to : FieldType) → Pointer (record { target = number m s; locks = locks }) ≡ Pointer to → number m s ≡ to.target = λ to is. ap (λ (t : FieldType). t.target) (same_pointer _ to is) in
     record {
       whole = whole;
       some = λ to is none. w.some (to_is to is ∙ none);
-      row = λ to is none. let e : number m s ≡ length (targets_of m).rows = to_is to is ∙ none in omega (arith, low, e);
+      row = λ to is none. let e : number m s ≡ length (targets_of m).rows = to_is to is ∙ none in omega (arith, w.inside, e);
       private_target = λ to is h. below (sym (ap (λ (t : Target). t.is_private) w.row) ∙ subst (λ n. (row_of (targets_of m) n).is_private ≡ true) (sym (to_is to is)) h);
       not_racy = λ is h. other h;
       mutex = λ h. absurd (false≢true h);

@@ -1,7 +1,7 @@
 -- What the proofs cite of std, of other crates and of this crate's definitions, passed on from one place.
-pub use Rattle.std.proofs.{Common.{Bool, Contains, IfSome, IsSomeAnd, List, None, Option, Some, [], ap, append-nil, append_assoc, ap₂, arith, bytes_eq, codes, cond, drop, eq-eqb, eqb-true, false, if◌then◌else◌, inl, inr, is_none, is_some, length, length-append, lt-ltb, ltb-false, map, nat_lt, negsuc, not, option_map, option_to_list, pos, refl, replicate, slice_get, slice_index_or as get_or, subst, suc, sym, take, to_z-of_z, true, zero, ℕ, ℤ, ⊎_elim, ◌%◌, ◌&&◌, ◌*◌, ◌++◌, ◌+◌, ◌-◌, ◌/◌, ◌<◌, ◌==◌, ◌^◌, ◌||◌, ◌∙◌, ◌∷◌, ◌≡◌, ◌≢◌, ◌≤◌, ◌⊎◌}, Math.Nat.{div-add-mod, mod-eq_of_lt, mul-add-mod_self_right, mul_comm, suc-mul}, lemmas.Bool.{and_from, and_left as constant_not, and_parts, cases_lt, eqb-false, false_from_ne_true, false≢true, le-ltb, ltb-true, ne_eqb, or_cases, or_left, or_right, true≢false}, lemmas.List.length-map, lemmas.List.Elements.{Contains-append_left, Contains-append_right, filter_map-append}, lemmas.Nat.{div-add-mod', mod-mul-add}, lemmas.Option.{slice_get_past as got_none}, lemmas.Slice.Eq.bytes_eq-Decides}
+pub use Rattle.std.proofs.{Common.{Bool, Contains, IfSome, IsSomeAnd, List, None, Option, Some, [], ap, append-nil, append_assoc, ap₂, arith, bytes_eq, codes, cond, drop, eq-eqb, eqb-true, false, if◌then◌else◌, inl, inr, is_none, is_some, length, length-append, lt-ltb, ltb-false, map, nat_lt, negsuc, not, option_map, option_to_list, pos, refl, replicate, slice_get, slice_index_or as get_or, subst, suc, sym, take, to_z-of_z, true, zero, ℕ, ℤ, ⊎_elim, ◌%◌, ◌&&◌, ◌*◌, ◌++◌, ◌+◌, ◌-◌, ◌/◌, ◌<◌, ◌==◌, ◌^◌, ◌||◌, ◌∙◌, ◌∷◌, ◌≡◌, ◌≢◌, ◌≤◌, ◌⊎◌}, Math.Nat.{div-add-mod, mod-eq_of_lt, mul-add-mod_self_right, mul_comm, suc-mul}, lemmas.Bool.{and_from, and_left as constant_not, and_parts, cases_lt, eqb-false, false_from_ne_true, false≢true, le-ltb, ltb-true, ne_eqb, or_cases, or_left, or_right, true≢false}, lemmas.List.length-map, lemmas.List.Elements.{Contains-append_cases as either_there, Contains-append_left as left_there, Contains-append_right as right_there, filter_map-append}, lemmas.Nat.{div-add-mod', mod-mul-add}, lemmas.Option.{slice_get_past as got_none}, lemmas.Slice.Eq.bytes_eq-Decides}
 pub use Rattle.std.specs.{Int.w64, List.{AllByRecursion, filter_map, find, flat_map, list_any, position, position_or_len}, Option.option_or, Prelude.{FitsSigned, neg_ℤ, slice_index, unsigned_abs, unwrap_or}}
-pub use Rattle.sharc_lemmas.proofs.{Bools.{and_false, no, or_false, same_test as both_ways}, Equal.none_there, Lists.{back, both, bytes_same, each, front, front_got, head_or_tail, head_there, map_length, mapped_each, no_cons, of_each, place_of_element, some_there, tail_there, there_is as below_there, to_each, together}, Numbers.{eq_refl, same_is as eqb_same, some_star, times_low}, Options.{no_guard, none_some, same_bool, same_some, some_is}}
+pub use Rattle.sharc_lemmas.proofs.{Bools.{and_false, no, or_false, same_test as both_ways}, Equal.none_there, Lists.{at_place as each_at, back, both, bytes_same, each, front, front_got, head_or_tail, head_there, in_list as place_there, map_length, mapped_each, no_cons, of_each, place_of_element, some_there, tail_there, there_is as below_there, to_each, together}, Numbers.{eq_refl, same_is as eqb_same, some_star, times_low}, Options.{no_guard, none_some, same_bool, same_some, some_is}}
 pub use Rattle.sharc_graph.specs.{Findings.finding_at, declared.graph.NodeFinding.NodeFinding, declared.graph.NodeFinding.TheVariants.Apart}
 pub use Rattle.sharc_tree.specs.{Forms.{is_lvalue, without_parentheses}, Low.{IsLow, LowFirst, LowItems, LowSimple, LowStatement, LowStatements, is_call}, Marks.{AreMarks, IsMark, Mark, a_name, arguments_marks, base_marks, declaration_marks, declarations_marks, first_marks, head_marks, level_marks, levels_marks, local_marks, marks, name_marks, option_marks, right_marks, simple_marks, statement_marks, statements_marks, type_marks}, Measures.{expressions, in_arguments, in_first, in_function, in_head, in_local, in_option, in_right, in_simple, in_statement, in_statements}, Placed.{Follow, IsPlaced, IsWhole, PlacedDeclaration, PlacedDeclarations, PlacedFirst, PlacedItem, PlacedItems, PlacedLocal, PlacedRight, PlacedSimple, PlacedStatement, PlacedStatements, PlacedType, declaration_spans, first_spans, head_spans, item_spans, option_spans, point, statement_spans}, Spans.{span_of, span_of_right, span_of_simple, span_of_statement}, Tree.{Arguments, Expression, First, Function, Head, Item, Local, Right, Simple, Statement, Statements, argument, assign, binary, block, call, cast, constant, declare, declares, does, does_call, empty, field, for, function, global, identifier, if_then, if_then_else, index, jump, malloc, no_arguments, no_statements, nothing, on_place, on_value, parentheses, return, simple, spawn, statement, structure, unary, value, while}, declared.ctype.Base.Base, declared.ctype.Base.TheVariants.{Mutex, Struct, Void}, declared.ctype.Mode.Mode, declared.ctype.Mode.TheVariants.{Dynamic, Locked, Private, Racy, Readonly}, declared.ctype.Path.Path, declared.ctype.Path.TheVariants.{One, Through}, declared.token.NumberType.NumberType, declared.token.Site.Site, declared.token.Span.Span, declared.token.Token.Token, declared.tree.declaration.Declaration.Declaration, declared.tree.declaration.Identifier.Identifier, declared.tree.declaration.WrittenType.WrittenType, declared.tree.expression.BinaryOperator.BinaryOperator, declared.tree.expression.BinaryOperator.TheVariants.{Equal, Greater, GreaterOrEqual, Less, LessOrEqual, LogicalAnd, LogicalOr, NotEqual, ShiftLeft, ShiftRight}, declared.tree.expression.Constant.Constant, declared.tree.expression.Constant.TheVariants.{Character, Null, Number}, declared.tree.expression.FieldOperator.FieldOperator, declared.tree.expression.FieldOperator.TheVariants.{Arrow, Dot}, declared.tree.expression.PlaceCall.TheVariants.{Free, Unlock}, declared.tree.expression.UnaryOperator.UnaryOperator, declared.tree.expression.UnaryOperator.TheVariants.{Complement, Dereference, Negate, Not}, declared.tree.item.GlobalDefinition.GlobalDefinition, declared.tree.item.GlobalForm.GlobalForm, declared.tree.item.GlobalForm.TheVariants.Array, declared.tree.item.StructDefinition.StructDefinition}
 pub use Rattle.sharc_names.specs.{Kinds.{Kind, agrees, array, condition_pointer, declared_kind, declared_kinds, element_kind, int, is_array, is_integer, is_integral, is_long, is_null, is_pointer, is_struct_base, is_struct_behind, long, mutex, mutex_pointer, null, object, promoted, same_base, same_kind, stars_of, void}, Names.{Entry, Meaning, StructMeaning, StructTable, defined, field_of, global_kind, look_up, named_of, named_struct, struct_of}, Needs.{met, unagreed, unmet}, Notes.{Note, fault, fault_unless, fault_where, faults, referred, refers, yields}, Types.{allowed_there, base_notes, first_notes, is_allowed, main_notes, mode_notes, modes_notes, name_notes, path_notes, struct_note, type_notes}, declared.fault.FaultCode.FaultCode, declared.fault.FaultCode.TheVariants.{BadForm, TypeNotAllowed, UnknownName}, declared.fault.Named.Named, declared.meaning.ConditionCall.ConditionCall, declared.meaning.ConditionCall.TheVariants.{Broadcast, Signal, Wait}, declared.need.Need.TheVariants.Value, declared.scope.Scope.Scope, declared.types.Role.Role}

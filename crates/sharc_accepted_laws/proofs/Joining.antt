@@ -68,8 +68,7 @@ module _ (scopes : ScopeLaws) (c : Context) (code : Code) (signature : ℕ → S
   stands l (to_global g names kind) q holds low = of_global g names kind
   stands l (to_variable x name names second there inside mutex_there) q holds low =
       let has = scopes.has c x there in
-      let low_register = has.0 in
-      of_variable x name (variable_type c x) names second (omega (arith, low, low_register)) (holds.references (register c x) has.0 ∙ ap Refers (typing.pointers x there)) inside mutex_there
+      of_variable x name (variable_type c x) names second (omega (arith, low, has.0)) (holds.references (register c x) has.0 ∙ ap Refers (typing.pointers x there)) inside mutex_there
 
   own_cell : (ls : Labels) (q : Label) (i r : ℕ) (t : Target) → ((x : ℕ) → t ≡ variable x → ⊥) → ((g : ℕ) → IsInside t g → IsAlone ls q) → IsOwn ls q (cell_of c.globals i r t)
   own_cell ls q i r (variable x) none alone = absurd (none x refl)

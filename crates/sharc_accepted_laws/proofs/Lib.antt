@@ -2,7 +2,6 @@ mod Imports
 pub mod AccessCells
 pub mod AccessFirsts
 pub mod AccessLeading
-pub mod AccessLists
 pub mod AccessPointing
 pub mod Alike
 pub mod Alone

@@ -1,5 +1,5 @@
 -- Each lvalue that is no struct names a variable, or a cell that the table has with its content and its mode.
-use Rattle.sharc_accepted_laws.proofs.{Imports.{◌≡◌, inl, inr, ℕ, zero, suc, ◌+◌, ◌-◌, ◌<◌, ◌≤◌, true, false, cond, ◌&&◌, eq-eqb, List, [], ◌∷◌, ◌++◌, length, map, take, drop, get_or as slice_index_or, refl, ap, sym, ◌∙◌, subst, arith, Option, Some, None, Contains, true≢false, lt-ltb, ne_eqb, option_map, Base, Mode, Path, Declaration, Identifier, Dot, Arrow, Number, Null, Dereference, GlobalDefinition, GlobalForm, StructDefinition, expressions, Expression, NumberType, Named, Kind, object, array, is_array, is_null, is_pointer, is_struct_base, is_struct_behind, declared_kind, global_kind, field_of, constant_kind, number_kind, Resolution, named_at, named_kind, declaration_at, global_at, kind_at, structs_in, HasType, Common, both_shorter, struct_named, IsMemberOf, Callee, of_program, of_conditions, is_mutex_kind, top_of, field_cell, first_of, pointed, named_cell, global_cell, declared_cell, field_named, cell_at, Assignment, base_of, PathReading, written, Targets, constant_row, deeper, declared_row, global_row, named_row, reading_through, base_use, behind, row_at, read, modes_of, modes_at, Lock, Sharing, locked, lock_of, sharing_of, IsExpression, field_place, field_place_named, Target, in_object, in_object_at, in_global, in_global_at, named_target, own_field, target, global_of, FieldMode, FieldLock, Field, Content, Pointer, TableTarget, no_field, row_of, IsRowOf, IsMemberAt, pointer_of, below_locks, locks_below, named_locks, cell_locks, IsOfObject, IsOfGlobal, LocksFit, are_written, of_type, ContentFits, ModeFits, FieldFits, IsBehindPointer, IsInFile, NamesCell, no_cell, of_object, of_global, Shape, form_of, shape_of, row_shape, expression_shape, shapes, number, own_mode, lock_count, type_locks, field_locks, is_private_mode, base_content, pointer_content, declared_content, single, member, base_fields, shape_fields, top_mode, global_element, targets_of, map_length, head_there, tail_there}, TargetForms.row_length, TargetLists.left_there, Moding.{PathNames, own_fits, global_fits, private_both, global_both, field_fits}, Numbers.numbers_found, TargetWalk.function_closed, Beginning.{is_some_base as same_base}}
+use Rattle.sharc_accepted_laws.proofs.{Imports.{◌≡◌, inl, inr, ℕ, zero, suc, ◌+◌, ◌-◌, ◌<◌, ◌≤◌, true, false, cond, ◌&&◌, eq-eqb, List, [], ◌∷◌, ◌++◌, length, map, take, drop, get_or as slice_index_or, refl, ap, sym, ◌∙◌, subst, arith, Option, Some, None, Contains, true≢false, lt-ltb, ne_eqb, option_map, Base, Mode, Path, Declaration, Identifier, Dot, Arrow, Number, Null, Dereference, GlobalDefinition, GlobalForm, StructDefinition, expressions, Expression, NumberType, Named, Kind, object, array, is_array, is_null, is_pointer, is_struct_base, is_struct_behind, declared_kind, global_kind, field_of, constant_kind, number_kind, Resolution, named_at, named_kind, declaration_at, global_at, kind_at, structs_in, HasType, Common, both_shorter, struct_named, IsMemberOf, Callee, of_program, of_conditions, is_mutex_kind, top_of, field_cell, first_of, pointed, named_cell, global_cell, declared_cell, field_named, cell_at, Assignment, base_of, PathReading, written, Targets, constant_row, deeper, declared_row, global_row, named_row, reading_through, base_use, behind, row_at, read, modes_of, modes_at, Lock, Sharing, locked, lock_of, sharing_of, IsExpression, field_place, field_place_named, Target, in_object, in_object_at, in_global, in_global_at, named_target, own_field, target, global_of, FieldMode, FieldLock, Field, Content, Pointer, TableTarget, no_field, row_of, IsRowOf, IsMemberAt, pointer_of, below_locks, locks_below, named_locks, cell_locks, IsOfObject, IsOfGlobal, LocksFit, are_written, of_type, ContentFits, ModeFits, FieldFits, IsBehindPointer, IsInFile, NamesCell, no_cell, of_object, of_global, Shape, form_of, shape_of, row_shape, expression_shape, shapes, number, own_mode, lock_count, type_locks, field_locks, is_private_mode, base_content, pointer_content, declared_content, single, member, base_fields, shape_fields, top_mode, global_element, targets_of, map_length, head_there, tail_there, left_there}, TargetForms.row_length, Moding.{PathNames, own_fits, global_fits, private_both, global_both, field_fits}, Numbers.numbers_found, TargetWalk.function_closed, Beginning.is_some_base as same_base}
 use Rattle.sharc_tree.specs.Tree as tree
 use Rattle.sharc_names.specs.Kinds as kinds
 use Rattle.sharc_ctype_laws.specs.Constraints as typing
@@ -121,8 +121,7 @@ module _ (m : Assignment) (ready : AreReady m) where
     where
       by : (row : Targets) → row_at r p ≡ Some row → IsRowOf m (object b (n + 1)) row → IsPointee p b n
       by row at w =
-          let count = w.count in
-          let positive : 0 < row.count = omega (arith, count) in
+          let positive : 0 < row.count = omega (arith, w.count) in
           let x = row_is m (object b (n + 1)) row w positive in
           let size = ap length x.modes in
           let forms = map_length form_of (modes_of m row) in
@@ -138,7 +137,7 @@ module _ (m : Assignment) (ready : AreReady m) where
             modes = x.modes;
             deep = x.deep;
             points = ap first_of x.modes;
-            many = omega (arith, size, forms, whole, count);
+            many = omega (arith, size, forms, whole, w.count);
             fields = ap (λ (t : TableTarget). t.fields) (numbers_found m (expression_shape m p row) (subst (λ k. Contains (shapes m) (row_shape m (base_of k) row)) (sym (ready.one p (object b (n + 1)) h)) (w.there positive))).row
                 ∙ ap (λ (s : Shape). shape_fields m s.base s.forms) shape_is;
           }

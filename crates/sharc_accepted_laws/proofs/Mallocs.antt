@@ -15,20 +15,13 @@ within_one : (token from until : ℕ) (w : WrittenType) → from ≤ token → t
 within_one token from until w low high = record { once = omega arith; low = λ _. low; high = λ _. high }
 
 widened : (token from until more less : ℕ) (list : List WrittenType) → less ≤ from → until ≤ more → Within token from until list → Within token less more list
-widened token from until more less list a b w =
-    record { once = w.once; low = λ h. let l = w.low h in omega (arith, a, l); high = λ h. let l = w.high h in omega (arith, b, l) }
+widened token from until more less list a b w = record { once = w.once; low = λ h. omega (arith, a, w.low h); high = λ h. omega (arith, b, w.high h) }
 
 both : (token from mid until : ℕ) (a b : List WrittenType) → from ≤ mid → mid ≤ until → Within token from mid a → Within token mid until b → Within token from until (a ++ b)
 both token from mid until [] b after before x y = widened token mid until until from b after (omega arith) y
 both token from mid until (w ∷ a) [] after before x y =
-    let whole = length-append (w ∷ a) [] in
-    let once = x.once in
-    record {
-      once = omega (arith, whole, once);
-      low = λ h. x.low (omega arith);
-      high = λ h. let l = x.high (omega arith) in omega (arith, before, l);
-    }
-both token from mid until (w ∷ a) (v ∷ b) after before x y = let h = x.high (omega arith) in let l = y.low (omega arith) in absurd (omega (arith, h, l))
+    record { once = omega (arith, length-append (w ∷ a) [], x.once); low = λ h. x.low (omega arith); high = λ h. omega (arith, before, x.high (omega arith)) }
+both token from mid until (w ∷ a) (v ∷ b) after before x y = absurd (omega (arith, x.high (omega arith), y.low (omega arith)))
 
 -- ---- spans that follow one another
 record InTwo (all : List Token) (from until : ℕ) (xs ys : List Span) : Type 0 where
@@ -40,13 +33,9 @@ record InTwo (all : List Token) (from until : ℕ) (xs ys : List Span) : Type 0 
 
 parts : (all : List Token) (from until : ℕ) (xs ys : List Span) → from ≤ until → Follow all from until (xs ++ ys) → InTwo all from until xs ys
 parts all from until [] ys le f = record { mid = from; after = omega arith; before = le; first = tt; second = f }
-parts all from until (x ∷ xs) ys le f =
-    let low = f.1 in
-    let order = f.0.order in
-    let high = f.2 in
-    let p = parts all (x.last.token + 1) until xs ys (omega (arith, high)) f.3 in
-    let after = p.after in
-    record { mid = p.mid; after = omega (arith, low, order, after); before = p.before; first = (f.0, low, omega (arith, after), p.first); second = p.second }
+parts all from until (x ∷ xs) ys le (span, low, high, follow) =
+    let p = parts all (x.last.token + 1) until xs ys (omega (arith, high)) follow in
+    record { mid = p.mid; after = omega (arith, low, span.order, p.after); before = p.before; first = (span, low, omega (arith, p.after), p.first); second = p.second }
 
 module _ (r : Resolution) (token : ℕ) (all : List Token) where
   -- what the transfers of a piece of the program make at the token
@@ -69,10 +58,7 @@ module _ (r : Resolution) (token : ℕ) (all : List Token) where
       both token from p.mid until a b p.after p.before (x from p.mid p.after p.first) (y p.mid until p.before p.second)
 
   whole : (s : Span) (spans : List Span) (list : List WrittenType) → IsWhole all s spans → Piece spans list → Piece (s ∷ []) list
-  whole s spans list is p from until le f =
-      let order = f.0.order in
-      let high = f.2 in
-      widened token s.first.token (s.last.token + 1) until from list f.1 (omega (arith, high)) (p s.first.token (s.last.token + 1) (omega (arith, order)) is.1)
+  whole s spans list is p from until le (span, low, high, _) = widened token s.first.token (s.last.token + 1) until from list low (omega (arith, high)) (p s.first.token (s.last.token + 1) (omega (arith, span.order)) is.1)
 
   -- with a piece before it that makes none
   behind : (xs ys : List Span) (a b : List Transfer) → made a ≡ [] → Piece ys (made b) → Piece (xs ++ ys) (made (a ++ b))
@@ -132,10 +118,7 @@ module _ (r : Resolution) (token : ℕ) (all : List Token) where
   malloc_piece s w false e = no_piece (s ∷ []) [] refl
   malloc_piece s w true e = λ from until le f.
       let same = eqb-true s.first.token token e in
-      let low = f.1 in
-      let order = f.0.order in
-      let high = f.2 in
-      within_one token from until w (omega (arith, same, low)) (omega (arith, same, order, high))
+      within_one token from until w (omega (arith, same, f.1)) (omega (arith, same, f.0.order, f.2))
 
   given : (to : Receiver) (x : Right) → PlacedRight all x → Piece (span_of_right x ∷ []) (made (gives to x))
   given to (value e) placed = no_piece (span_of e ∷ []) [] refl

@@ -1,13 +1,13 @@
 -- What holds of each element of a list, and what is an element.
-use Rattle.sharc_accepted_laws.proofs.Imports.{◌≡◌, ⊎_elim, List, [], ◌∷◌, refl, ap, sym, ◌∙◌, subst, Option, Some, None, Contains, Contains-append_left, Contains-append_right, AllByRecursion, flat_map, filter_map, expressions, Expression, head_there, head_or_tail, to_each, tail_there, none_there}
+use Rattle.sharc_accepted_laws.proofs.Imports.{◌≡◌, ⊎_elim, List, [], ◌∷◌, refl, ap, sym, ◌∙◌, subst, Option, Some, None, Contains, left_there, right_there, AllByRecursion, flat_map, filter_map, expressions, Expression, head_there, head_or_tail, to_each, tail_there, none_there}
 use Rattle.sharc_tree.specs.Tree as tree
 
 -- of what each element gives
 pub flat_there : {A B : Type 0} (f : A → List B) (list : List A) (x : A) (y : B) → Contains list x → Contains (f x) y → Contains (flat_map f list) y
 flat_there f [] x y has in_it = absurd (none_there x has)
 flat_there f (z ∷ rest) x y has in_it = ⊎_elim
-    (λ is. Contains-append_left (f z) (flat_map f rest) y (subst (λ k. Contains (f k) y) (sym is) in_it))
-    (λ later. Contains-append_right (f z) (flat_map f rest) y (flat_there f rest x y later in_it))
+    (λ is. left_there (f z) (flat_map f rest) y (subst (λ k. Contains (f k) y) (sym is) in_it))
+    (λ later. right_there (f z) (flat_map f rest) y (flat_there f rest x y later in_it))
     (head_or_tail z x rest has)
 
 pub filter_there : {A B : Type 0} (p : A → Option B) (list : List A) (x : A) (y : B) → Contains list x → p x ≡ Some y → Contains (filter_map p list) y

@@ -1,5 +1,5 @@
 -- What is said of a typed program is so: no fault stands in it, and each name names what its note says.
-use Rattle.sharc_accepted_laws.proofs.{Imports.{◌≡◌, ⊎_elim, ℕ, ◌+◌, ◌==◌, Bool, true, false, cond, List, [], ◌∷◌, ◌++◌, length, refl, ap, sym, ◌∙◌, subst, Option, Some, None, Contains, AllByRecursion, Base, Mode, Locked, Path, One, Through, Declaration, WrittenType, IsLow, IsPlaced, Local, First, declares, Statement, Statements, no_statements, statement, Function, Item, structure, global, function, FaultCode, Named, Scope, Role, object, declared_kind, Entry, Meaning, StructTable, StructMeaning, look_up, named_of, struct_of, named_struct, Note, fault, refers, yields, faults, referred, name_notes, path_notes, mode_notes, modes_notes, struct_note, base_notes, type_notes, sizes_notes, heads_notes, no_heads, field_notes, fields_notes, parameters_notes, function_notes, item_notes, items_notes, main_missing, file_scope, in_body, notes_about, Resolution, IsResolved, named_at, declaration_at, declared_at, declarations_in, variable_kind, functions_in, Around, opened, looping, with_names, behind_first, after, test_notes, local_notes, first_statement_notes, head_notes, notes_in, notes_in_all, first_locals, locals_in_all, Tells, IsToldOnce, EachNameOnce, OnlyNames, meaning_token, IsVariableIn, IsAmong, LevelStands, TypeStands, fields_named, fields_behind, same_some, none_some, front, back, both, head_there, head_or_tail, of_each, to_each, tail_there, none_there}, Scoping.{HasOneStruct, ParametersStand, AreParametersClosed}, Places.entry_there, TargetLists.either_there}
+use Rattle.sharc_accepted_laws.proofs.{Imports.{◌≡◌, ⊎_elim, ℕ, ◌+◌, ◌==◌, Bool, true, false, cond, List, [], ◌∷◌, ◌++◌, length, refl, ap, sym, ◌∙◌, subst, Option, Some, None, Contains, AllByRecursion, Base, Mode, Locked, Path, One, Through, Declaration, WrittenType, IsLow, IsPlaced, Local, First, declares, Statement, Statements, no_statements, statement, Function, Item, structure, global, function, FaultCode, Named, Scope, Role, object, declared_kind, Entry, Meaning, StructTable, StructMeaning, look_up, named_of, struct_of, named_struct, Note, fault, refers, yields, faults, referred, name_notes, path_notes, mode_notes, modes_notes, struct_note, base_notes, type_notes, sizes_notes, heads_notes, no_heads, field_notes, fields_notes, parameters_notes, function_notes, item_notes, items_notes, main_missing, file_scope, in_body, notes_about, Resolution, IsResolved, named_at, declaration_at, declared_at, declarations_in, variable_kind, functions_in, Around, opened, looping, with_names, behind_first, after, test_notes, local_notes, first_statement_notes, head_notes, notes_in, notes_in_all, first_locals, locals_in_all, Tells, IsToldOnce, EachNameOnce, OnlyNames, meaning_token, IsVariableIn, IsAmong, LevelStands, TypeStands, fields_named, fields_behind, same_some, none_some, front, back, both, head_there, head_or_tail, of_each, to_each, tail_there, none_there, either_there}, Scoping.{HasOneStruct, ParametersStand, AreParametersClosed}, Places.entry_there}
 use Rattle.sharc_tree.specs.Tree as tree
 use Rattle.sharc_names.specs.Names as meaning
 use Rattle.sharc_ctype.specs.Statements.{declared, in_head, locals_in}

@@ -1,5 +1,5 @@
 -- The numbers of shapes, and the rows that have them.
-use Rattle.sharc_accepted_laws.proofs.{Imports.{◌≡◌, ⊎_elim, ℕ, zero, suc, ◌+◌, ◌<◌, Bool, true, false, cond, List, [], ◌∷◌, length, map, get_or as slice_index_or, refl, ap, sym, ◌∙◌, subst, arith, Contains, true≢false, Base, Numbered, entities_in, numbered, Assignment, no_target, row_of, Form, Shape, known_condition, known_mutex, shapes_down, entity_shapes, shapes_of, shapes, same_shape, number_from, number, shape_row, targets_of, NumbersFound, ShapesClosed, map_length, head_there, head_or_tail, tail_there, none_there}, Alike.{shape_itself, shape_is}, TargetLists.{left_there, right_there, either_there, map_at}}
+use Rattle.sharc_accepted_laws.proofs.{Imports.{◌≡◌, ⊎_elim, ℕ, zero, suc, ◌+◌, ◌<◌, Bool, true, false, cond, List, [], ◌∷◌, length, map, get_or as slice_index_or, refl, ap, sym, ◌∙◌, subst, arith, Contains, true≢false, Base, Numbered, entities_in, numbered, Assignment, no_target, row_of, Form, Shape, known_condition, known_mutex, shapes_down, entity_shapes, shapes_of, shapes, same_shape, number_from, number, shape_row, targets_of, NumbersFound, ShapesClosed, map_length, head_there, head_or_tail, tail_there, none_there, left_there, right_there, either_there}, Alike.{shape_itself, shape_is}, TargetLists.map_at}
 
 -- ---- the first that is the same
 record IsAt (n : ℕ) (list : List Shape) (s : Shape) : Type 0 where
@@ -44,14 +44,12 @@ row_numbered m n place is = ap (λ k. slice_index_or (no_target ∷ map (shape_r
 pub numbers_found : NumbersFound
 numbers_found m s has =
     let w = found_at 1 (shapes m) s has in
-    let number_is = w.number in
-    let low = w.inside in
     let size = map_length (shape_row m) (shapes m) in
-    let next : number m s ≡ suc w.place = omega (arith, number_is) in
+    let next : number m s ≡ suc w.place = omega (arith, w.number) in
     record {
       row = row_numbered m (number m s) w.place next ∙ row_at m (shapes m) w.place ∙ ap (shape_row m) (w.is (record { base = Base.Void; forms = [] }));
       some = λ none. omega (arith, none, next);
-      inside = omega (arith, next, low, size);
+      inside = omega (arith, next, w.inside, size);
     }
 
 -- ---- what stands below a shape is one

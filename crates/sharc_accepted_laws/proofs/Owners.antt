@@ -1,35 +1,20 @@
 -- The place of a field: its name stands in one struct alone, and there once.
-use Rattle.sharc_accepted_laws.proofs.Imports.{◌≡◌, ⊎_elim, ℕ, zero, suc, ◌+◌, ◌<◌, ◌≤◌, ◌==◌, not, cond, List, [], ◌∷◌, length, refl, ap, sym, ◌∙◌, subst, arith, eq-eqb, Some, None, Contains, lt-ltb, le-ltb, ne_eqb, nat_lt, slice_get, unwrap_or, position_or_len, Token, Declaration, StructDefinition, Follow, declaration_spans, item_spans, PlacedDeclaration, PlacedDeclarations, PlacedItem, PlacedItems, Item, structure, global, function, structs_in, place_in, field_place_in, FieldsPlaced, same_some, none_some, head_or_tail, none_there}
+use Rattle.sharc_accepted_laws.proofs.Imports.{◌≡◌, ⊎_elim, ℕ, zero, suc, ◌+◌, ◌<◌, ◌≤◌, ◌==◌, not, cond, List, [], ◌∷◌, length, refl, ap, sym, ◌∙◌, subst, arith, eq-eqb, Some, None, Contains, lt-ltb, le-ltb, ne_eqb, nat_lt, slice_get, unwrap_or, position_or_len, Token, Declaration, StructDefinition, Follow, declaration_spans, item_spans, PlacedDeclaration, PlacedDeclarations, PlacedItem, PlacedItems, Item, structure, global, function, structs_in, place_in, field_place_in, FieldsPlaced, same_some, none_some, head_or_tail, none_there, below_there}
 
 -- the name of a declaration stands in its span
 pub named_within : (all : List Token) (d : Declaration) → PlacedDeclaration all d → (d.span.first.token ≤ d.name.site.token) × (d.name.site.token ≤ d.span.last.token)
-named_within all d placed =
-    let parts = placed.0.1 in
-    let order = parts.0.order in
-    let type_from = parts.1 in
-    let name = parts.3 in
-    let from = name.1 in
-    let until = name.2 in
-    (omega (arith, order, type_from, from), omega (arith, until))
+named_within all d ((_, (of_type, typed, _, (_, from, until, _))), _, _) = (omega (arith, of_type.order, typed, from), omega (arith, until))
 
 -- one of declarations that follow one another stands from where they begin on, and below their end
 one_within : (all : List Token) (from until : ℕ) (list : List Declaration) → Follow all from until (declaration_spans list) → PlacedDeclarations all list
     → (k : ℕ) (d : Declaration) → slice_get list k ≡ Some d → (from ≤ d.name.site.token) × (d.name.site.token < until)
 one_within all from until [] follow placed k d is = absurd (none_some d is)
-one_within all from until (x ∷ rest) follow placed zero d is =
-    let P : Declaration → Type 0 = λ e. (from ≤ e.name.site.token) × (e.name.site.token < until) in
+one_within all from until (x ∷ rest) (_, begins, ends, _) placed zero d is =
     let inside = named_within all x placed.0 in
-    let left = inside.0 in
-    let right = inside.1 in
-    let begins = follow.1 in
-    let ends = follow.2 in
-    subst P (same_some x d is) (omega (arith, left, begins), omega (arith, right, ends))
-one_within all from until (x ∷ rest) follow placed (suc k) d is =
-    let more = one_within all (x.span.last.token + 1) until rest follow.3 placed.1 k d is in
-    let left = more.0 in
-    let order = follow.0.order in
-    let begins = follow.1 in
-    (omega (arith, left, order, begins), more.1)
+    subst (λ (e : Declaration). (from ≤ e.name.site.token) × (e.name.site.token < until)) (same_some x d is) (omega (arith, inside.0, begins), omega (arith, inside.1, ends))
+one_within all from until (x ∷ rest) (span, begins, _, follow) placed (suc k) d is =
+    let more = one_within all (x.span.last.token + 1) until rest follow placed.1 k d is in
+    (omega (arith, more.0, span.order, begins), more.1)
 
 -- and no other of them has its token
 first_named : (all : List Token) (from until : ℕ) (list : List Declaration) → Follow all from until (declaration_spans list) → PlacedDeclarations all list
@@ -44,15 +29,10 @@ first_named all from until (x ∷ rest) follow placed (suc k) d is =
     let next : 1 + position_or_len (λ (e : Declaration). e.name.site.token == d.name.site.token) rest ≡ suc k = omega (arith, more) in
     ap (λ b. cond (not b) (1 + position_or_len (λ (e : Declaration). e.name.site.token == d.name.site.token) rest) 0) (ne_eqb x.name.site.token d.name.site.token (λ same. omega (arith, inside, later, same))) ∙ next
 
-there_below : (list : List Declaration) (k : ℕ) (d : Declaration) → slice_get list k ≡ Some d → k < length list
-there_below [] k d is = absurd (none_some d is)
-there_below (x ∷ rest) zero d is = omega arith
-there_below (x ∷ rest) (suc k) d is = let more = there_below rest k d is in omega (arith, more)
-
 place_of : (all : List Token) (from until : ℕ) (list : List Declaration) → Follow all from until (declaration_spans list) → PlacedDeclarations all list
     → (k : ℕ) (d : Declaration) → slice_get list k ≡ Some d → place_in list d.name.site.token ≡ Some k
 place_of all from until list follow placed k d is =
-    ap (λ i. cond (nat_lt i (length list)) (Some i) None) (first_named all from until list follow placed k d is) ∙ ap (λ b. cond b (Some k) None) (lt-ltb k (length list) (there_below list k d is))
+    ap (λ i. cond (nat_lt i (length list)) (Some i) None) (first_named all from until list follow placed k d is) ∙ ap (λ b. cond b (Some k) None) (lt-ltb k (length list) (below_there list k d is))
 
 none_named : (list : List Declaration) (token : ℕ) → ((k : ℕ) (d : Declaration) → slice_get list k ≡ Some d → d.name.site.token < token) → position_or_len (λ (e : Declaration). e.name.site.token == token) list ≡ length list
 none_named [] token low = refl
@@ -68,32 +48,18 @@ none_of list token low =
 
 -- a field stands in its struct
 struct_within : (all : List Token) (s : StructDefinition) (k : ℕ) (d : Declaration) → PlacedItem all (structure s) → slice_get s.fields k ≡ Some d → (s.span.first.token ≤ d.name.site.token) × (d.name.site.token ≤ s.span.last.token)
-struct_within all s k d placed is =
-    let parts = placed.0.1 in
-    let inside = one_within all (s.name.site.token + 1) (s.span.last.token + 1) s.fields parts.3 placed.2 k d is in
-    let left = inside.0 in
-    let right = inside.1 in
-    let begins = parts.1 in
-    (omega (arith, left, begins), omega (arith, right))
+struct_within all s k d ((_, (_, begins, _, follow)), _, placed) is =
+    let inside = one_within all (s.name.site.token + 1) (s.span.last.token + 1) s.fields follow placed k d is in
+    (omega (arith, inside.0, begins), omega (arith, inside.1))
 
 -- from where the items begin on
 owned_from : (all : List Token) (from until : ℕ) (items : List Item) → Follow all from until (item_spans items) → PlacedItems all items → (s : StructDefinition) (k : ℕ) (d : Declaration) → Contains (structs_in items) s → slice_get s.fields k ≡ Some d → from ≤ d.name.site.token
 owned_from all from until [] follow placed s k d has is = absurd (none_there s has)
-owned_from all from until (structure x ∷ rest) follow placed s k d has is =
-    let order = follow.0.order in
-    let begins = follow.1 in
-    ⊎_elim (λ same. let inside = (struct_within all x k d placed.0 (subst (λ (z : StructDefinition). slice_get z.fields k ≡ Some d) (sym same) is)).0 in omega (arith, inside, begins))
-    (λ later. let more = owned_from all (x.span.last.token + 1) until rest follow.3 placed.1 s k d later is in omega (arith, more, order, begins)) (head_or_tail x s (structs_in rest) has)
-owned_from all from until (global g ∷ rest) follow placed s k d has is =
-    let more = owned_from all (g.span.last.token + 1) until rest follow.3 placed.1 s k d has is in
-    let order = follow.0.order in
-    let begins = follow.1 in
-    omega (arith, more, order, begins)
-owned_from all from until (function f ∷ rest) follow placed s k d has is =
-    let more = owned_from all (f.span.last.token + 1) until rest follow.3 placed.1 s k d has is in
-    let order = follow.0.order in
-    let begins = follow.1 in
-    omega (arith, more, order, begins)
+owned_from all from until (structure x ∷ rest) (span, begins, _, follow) placed s k d has is =
+    ⊎_elim (λ same. omega (arith, begins, (struct_within all x k d placed.0 (subst (λ (z : StructDefinition). slice_get z.fields k ≡ Some d) (sym same) is)).0))
+    (λ later. omega (arith, span.order, begins, owned_from all (x.span.last.token + 1) until rest follow placed.1 s k d later is)) (head_or_tail x s (structs_in rest) has)
+owned_from all from until (global g ∷ rest) (span, begins, _, follow) placed s k d has is = omega (arith, span.order, begins, owned_from all (g.span.last.token + 1) until rest follow placed.1 s k d has is)
+owned_from all from until (function f ∷ rest) (span, begins, _, follow) placed s k d has is = omega (arith, span.order, begins, owned_from all (f.span.last.token + 1) until rest follow placed.1 s k d has is)
 
 pub place_is : (all : List Token) (from until : ℕ) (items : List Item) → Follow all from until (item_spans items) → PlacedItems all items → (s : StructDefinition) (k : ℕ) (d : Declaration) → Contains (structs_in items) s → slice_get s.fields k ≡ Some d
     → field_place_in (structs_in items) d.name.site.token ≡ k

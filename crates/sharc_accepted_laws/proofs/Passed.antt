@@ -1,5 +1,5 @@
 -- What is passed at a call has the type that the parameter has there: each path `x->m` of the parameter's type leads, by the argument for `x`, to the same mutex.
-use Rattle.sharc_accepted_laws.proofs.{Imports.{◌≡◌, ⊎_elim, ℕ, ◌+◌, ◌==◌, Bool, true, false, cond, List, [], ◌∷◌, map, refl, ap, sym, ◌∙◌, subst, bytes_eq, Option, Some, None, is_some, eqb-true, lt-ltb, arith, Contains, false≢true, unwrap_or, AllByRecursion, Base, Mode, Locked, Path, One, Through, Declaration, Expression, Arguments, no_arguments, argument, value, Function, in_function, IsLow, IsPlaced, Named, Kind, object, is_pointer, declared_kind, Entity, Numbered, entities_in, numbered, numbered_from, positions_of, is_told_by, entity_at, Resolution, IsResolved, named_at, function_at, functions_in, declaration_at, variable_kind, named_kind, kind_at, Transfer, variable, passed, parameters_of, parameters_named, function_transfers, IsFair, is_constant, IsFound, EachTypeFound, EachNamesItself, AllFair, FirstNames, a_known_call, IsNamedLevel, field_place_behind, Assignment, base_of, PathReading, written, at_call, Targets, is_constant_named, constant_use, argument_use, with_base, path_variable, lock_for, read, entity_row, declared_row, modes_of, modes_at, Lock, Sharing, locked, lock_of, sharing_of, variable_named, same_all, IsEntity, IsExpression, IsCall, called, spawned, an_argument, RulesAreMet, at_target, is_substituted, Context, slot_kind, PathNamed, PathStands, TypeLock, Global, InRegister, Refers, Label, AllSame, PassesLock, Passes, form_of, shape_of, number, register, lock_named, lock_at, locks_at, static_of, variable_type, entry_by, entry_of, IsAccepted, at_entry, AreCopies, ArgumentsPass, argument_type, AreStanding, ArgumentFits, ArgumentsFit, is_held, IsHeldPath, AllHeld, AllStand, same_some, none_some, each, head_there, head_or_tail, of_each, to_each, tail_there, none_there}, Holds.{path_named, held_by, object as object_there, all_named, variable_is}, Scoping.HasOneStruct, Same.{forms_of_same, locks_of_same}, Transferred.{own_passed, Passes as FairlyPasses, calls_pass}, Given.{Fair, is_nothing, is_like, fair, null_modes, meets, no_variable, parameter_declared, goes}, Written.{raw, row_good, found_there}, Origins.{reading_kept, same_raw, mapped_there, both_hold, same_lock}, TargetLists.place_there, Sorts.{one_kind as same_kinds}}
+use Rattle.sharc_accepted_laws.proofs.{Imports.{◌≡◌, ⊎_elim, ℕ, ◌+◌, ◌==◌, Bool, true, false, cond, List, [], ◌∷◌, map, refl, ap, sym, ◌∙◌, subst, bytes_eq, Option, Some, None, is_some, eqb-true, lt-ltb, arith, Contains, false≢true, unwrap_or, AllByRecursion, Base, Mode, Locked, Path, One, Through, Declaration, Expression, Arguments, no_arguments, argument, value, Function, in_function, IsLow, IsPlaced, Named, Kind, object, is_pointer, declared_kind, Entity, Numbered, entities_in, numbered, numbered_from, positions_of, is_told_by, entity_at, Resolution, IsResolved, named_at, function_at, functions_in, declaration_at, variable_kind, named_kind, kind_at, Transfer, variable, passed, parameters_of, parameters_named, function_transfers, IsFair, is_constant, IsFound, EachTypeFound, EachNamesItself, AllFair, FirstNames, a_known_call, IsNamedLevel, field_place_behind, Assignment, base_of, PathReading, written, at_call, Targets, is_constant_named, constant_use, argument_use, with_base, path_variable, lock_for, read, entity_row, declared_row, modes_of, modes_at, Lock, Sharing, locked, lock_of, sharing_of, variable_named, same_all, IsEntity, IsExpression, IsCall, called, spawned, an_argument, RulesAreMet, at_target, is_substituted, Context, slot_kind, PathNamed, PathStands, TypeLock, Global, InRegister, Refers, Label, AllSame, PassesLock, Passes, form_of, shape_of, number, register, lock_named, lock_at, locks_at, static_of, variable_type, entry_by, entry_of, IsAccepted, at_entry, AreCopies, ArgumentsPass, argument_type, AreStanding, ArgumentFits, ArgumentsFit, is_held, IsHeldPath, AllHeld, AllStand, same_some, none_some, each, head_there, head_or_tail, of_each, to_each, tail_there, none_there, place_there}, Holds.{path_named, held_by, object as object_there, all_named, variable_is}, Scoping.HasOneStruct, Same.{forms_of_same, locks_of_same}, Transferred.{own_passed, Passes as FairlyPasses, calls_pass}, Given.{Fair, is_nothing, is_like, fair, null_modes, meets, no_variable, parameter_declared, goes}, Written.{raw, row_good, found_there}, Origins.{reading_kept, same_raw, mapped_there, both_hold, same_lock}, Sorts.one_kind as same_kinds}
 use Rattle.std.proofs.Common.{position}
 use Rattle.sharc_tree.specs.Tree as tree
 use Rattle.sharc_ctype_laws.specs.WrittenTypes.{a_field, a_variable, a_global, a_function}

@@ -1,5 +1,5 @@
 -- A lock path that leads through a variable leads to a mutex of the table.
-use Rattle.sharc_accepted_laws.proofs.{Imports.{◌≡◌, ℕ, zero, suc, ◌+◌, ◌<◌, ◌≤◌, Bool, true, false, cond, not, List, [], ◌∷◌, length, map, take, drop, get_or as slice_index_or, slice_get, unwrap_or, refl, ap, sym, ◌∙◌, subst, arith, lt-ltb, nat_lt, bytes_eq, Some, None, position, position_or_len, Base, Mode, Declaration, object, mutex, is_pointer, declared_kind, field_of, Resolution, variable_kind, structs_in, struct_named, field_place, field_place_behind, Assignment, base_of, Targets, written, read, declared_row, modes_of, Sharing, sharing_of, fields_of, fields_named, fields_behind, IsMutexBehind, Context, MutexWord, Field, no_field, row_of, field_at, IsAccepted, static_of, variable_type, FieldsPlaced, VariablesFound, MembersAre, IsRowOf, IsMemberAt, PointeesFit, pointee, form_of, stars_in, own_mode, base_content, pointer_content, declared_content, base_fields, shape_fields, targets_of, IsMutexThere, MutexesBehind, none_some}, Laying.{named_there as struct_there}, TargetLists.{place_there as there_at}}
+use Rattle.sharc_accepted_laws.proofs.{Imports.{◌≡◌, ℕ, zero, suc, ◌+◌, ◌<◌, ◌≤◌, Bool, true, false, cond, not, List, [], ◌∷◌, length, map, take, drop, get_or as slice_index_or, slice_get, unwrap_or, refl, ap, sym, ◌∙◌, subst, arith, lt-ltb, nat_lt, bytes_eq, Some, None, position, position_or_len, Base, Mode, Declaration, object, mutex, is_pointer, declared_kind, field_of, Resolution, variable_kind, structs_in, struct_named, field_place, field_place_behind, Assignment, base_of, Targets, written, read, declared_row, modes_of, Sharing, sharing_of, fields_of, fields_named, fields_behind, IsMutexBehind, Context, MutexWord, Field, no_field, row_of, field_at, IsAccepted, static_of, variable_type, FieldsPlaced, VariablesFound, MembersAre, IsRowOf, IsMemberAt, PointeesFit, pointee, form_of, stars_in, own_mode, base_content, pointer_content, declared_content, base_fields, shape_fields, targets_of, IsMutexThere, MutexesBehind, none_some, place_there as there_at}, Laying.named_there as struct_there}
 
 -- ---- a field by its name
 abbrev pub place_of : List ℕ → List Declaration → ℕ
@@ -19,10 +19,8 @@ place_named (x ∷ rest) name d is = by (bytes_eq x.name.text name) refl is (pla
     by true same is more = record { place = 0; low = omega arith; at = is; first = ap (λ b. cond (not b) (1 + place_of name rest) 0) same }
     by false other is more =
         let p = more is in
-        let low = p.low in
-        let first = p.first in
-        let next : 1 + place_of name rest ≡ suc p.place = omega (arith, first) in
-        record { place = suc p.place; low = omega (arith, low); at = p.at; first = ap (λ b. cond (not b) (1 + place_of name rest) 0) other ∙ next }
+        let next : 1 + place_of name rest ≡ suc p.place = omega (arith, p.first) in
+        record { place = suc p.place; low = omega (arith, p.low); at = p.at; first = ap (λ b. cond (not b) (1 + place_of name rest) 0) other ∙ next }
 
 pub position_is : (list : List Declaration) (name : List ℕ) (d : Declaration) (p : IsPlace list name d) → position (λ (e : Declaration). bytes_eq e.name.text name) list ≡ Some p.place
 position_is list name d p = ap (λ i. cond (nat_lt i (length list)) (Some i) None) p.first ∙ ap (λ b. cond b (Some p.place) None) (lt-ltb p.place (length list) p.low)

@@ -1,5 +1,5 @@
 -- What the lock paths of types lead through stands where the types are used: rows and expressions.
-use Rattle.sharc_accepted_laws.proofs.{Imports.{◌≡◌, ◌⊎◌, inl, inr, ℕ, zero, suc, Bool, true, false, cond, List, [], ◌∷◌, map, refl, ap, sym, ◌∙◌, subst, arith, lt-ltb, slice_get, option_map, bytes_eq, Option, Some, None, false≢true, AllByRecursion, Base, Mode, Locked, Path, One, Through, Span, Declaration, Identifier, FieldOperator, GlobalDefinition, StructDefinition, expressions, in_arguments, Expression, Arguments, no_arguments, argument, Function, Item, structure, global, function, Named, Scope, Kind, object, is_pointer, Entry, Meaning, field_of, look_up, named_of, Role, Entity, Numbered, declared, cast_entity, casts, result_of, function_entities, entities_in, numbered, is_told_by, entity_at, Resolution, named_at, declaration_at, global_at, function_at, globals_in, functions_in, structs_in, kind_at, variable_kind, HasType, IsMemberOf, struct_named, a_variable, a_global, a_function, a_field, a_field_behind, IsFound, NamesFound, meaning_token, IsVariableIn, IsAmong, LevelStands, TypeStands, CastStands, file_types, Placing, at, IsNamedLevel, IsNamedType, IsLeastAssignment, Assignment, PathReading, written, through, Targets, is_constant_named, constant_use, base_use, read, entity_row, global_row, named_row, result_row, called_row, reading_through, row_at, modes_of, locked, lock_of, sharing_of, text_at, is_sibling_lock, IsEntity, Context, slot_kind, PathNamed, PathStands, IfThere, AllStand, DeclaredStands, ExpressionStands, ExpressionsStand, same_some, none_some, front, back, both}, Origins.reading_kept, RowModes.{RowHolds, rows_hold}, Passed.{first_kind, same_token, same_path}, Written.{raw, row_good, found_there}}
+use Rattle.sharc_accepted_laws.proofs.{Imports.{◌≡◌, ◌⊎◌, inl, inr, ℕ, zero, suc, Bool, true, false, cond, List, [], ◌∷◌, map, refl, ap, sym, ◌∙◌, subst, arith, lt-ltb, slice_get, option_map, bytes_eq, Option, Some, None, false≢true, AllByRecursion, Base, Mode, Locked, Path, One, Through, Span, Declaration, Identifier, FieldOperator, GlobalDefinition, StructDefinition, expressions, in_arguments, Expression, Arguments, no_arguments, argument, Function, Item, structure, global, function, Named, Scope, Kind, object, is_pointer, Entry, Meaning, field_of, look_up, named_of, Role, Entity, Numbered, declared, cast_entity, casts, result_of, function_entities, entities_in, numbered, is_told_by, entity_at, Resolution, named_at, declaration_at, global_at, function_at, globals_in, functions_in, structs_in, kind_at, variable_kind, HasType, IsMemberOf, struct_named, a_variable, a_global, a_function, a_field, a_field_behind, IsFound, NamesFound, meaning_token, IsVariableIn, IsAmong, LevelStands, TypeStands, CastStands, file_types, Placing, at, IsNamedLevel, IsNamedType, IsLeastAssignment, Assignment, PathReading, written, through, Targets, is_constant_named, constant_use, base_use, read, entity_row, global_row, named_row, result_row, called_row, reading_through, row_at, modes_of, locked, lock_of, sharing_of, text_at, is_sibling_lock, IsEntity, Context, slot_kind, PathNamed, PathStands, IfThere, AllStand, DeclaredStands, ExpressionStands, ExpressionsStand, same_some, none_some, front, back, both}, Origins.reading_kept, RowModes.{RowHolds, rows_hold}, Passed.{first_kind, same_token, same_path}, Written.{raw, row_good, found_there}, Members.first_of}
 use Rattle.sharc_tree.specs.Tree as tree
 use Rattle.sharc_names.specs.Names as meaning
 
@@ -242,15 +242,11 @@ module _ (c : Context) (least : IsLeastAssignment c.program) (file : FileKnown c
   reads_base s a _ n _ (a_field t h is) seen = reads_written c
   reads_base s a _ n _ (a_field_behind {x = x} t h is) seen = reads_use a seen (object (Base.Struct x) 1) t (lt-ltb 0 1 (omega arith))
 
-  own : (e : Expression) → AllByRecursion (Seen r2 scope) (expressions e) → Seen r2 scope e
-  own (tree.cast s t a) h = h.0
-  own _ h = h.0
-
   field_row : (s : Span) (a : Expression) (v : FieldOperator) (n : Identifier) → AllByRecursion (Seen r2 scope) (expressions a) → Seen r2 scope (tree.field s a v n) → RowStands (row_at r2 (tree.field s a v n))
   field_row s a v n all h =
       let x = member r2 file s a v n _ h.has in
       let how = reading_through (base_use r2 v a) in
-      subst (λ z. AllStand m2 c.scope (modes_of m2 (named_row r2 how z))) (sym x.names) (file_stands c least how (reads_base s a v n _ h.has (own a all)) (declared Role.Field x.of) x.field.0 x.field.1)
+      subst (λ z. AllStand m2 c.scope (modes_of m2 (named_row r2 how z))) (sym x.names) (file_stands c least how (reads_base s a v n _ h.has (first_of (Seen r2 scope) a all)) (declared Role.Field x.of) x.field.0 x.field.1)
 
   row_stands : (e : Expression) → AllByRecursion (Seen r2 scope) (expressions e) → RowStands (row_at r2 e)
   row_stands = rows_hold m2 (PathStands r2 c.scope) (Seen r2 scope) identifier_row (λ s f all. called_rows (named_at r2 f.site.token))

@@ -30,9 +30,8 @@ pointees_fit m k row w pointer = by (pointer_kind k pointer)
   where
     by : IsPointerKind k → PointeeFits m k row
     by p =
-        let count = w.count in
         let stars : stars_in k ≡ suc p.below = ap stars_in p.is in
-        let has = w.there (omega (arith, count, stars)) in
+        let has = w.there (omega (arith, w.count, stars)) in
         let found = numbers_found m (row_shape m (base_of k) row) has in
         let size : length (map form_of (modes_of m row)) ≡ suc p.below = map_length form_of (modes_of m row) ∙ many_modes m k row w ∙ stars in
         let modes_some = many_modes m k row w in
@@ -70,7 +69,7 @@ content_plain m n d = by (is_pointer (declared_kind d.written))
     by false = base_plain d.written.ctype.base
 
 -- two lists of fields with the same contents, which have no lock of a type
-abbrev AreAlike : List Field → List Field → Type 0
+abbrev pub AreAlike : List Field → List Field → Type 0
 AreAlike [] [] = Unit {0}
 AreAlike (f ∷ fs) (g ∷ gs) = ((f.holds ≡ g.holds) × HasPlainLocks f.holds) × AreAlike fs gs
 AreAlike _ _ = ⊥
@@ -91,25 +90,23 @@ structs_alike m p q (s ∷ rest) name = by (bytes_eq s.name.text name) (structs_
     by true h = members_alike m p q 0 s.fields
     by false h = h
 
-bases_alike : (m : Assignment) (p q : FieldMode) (b : Base) → AreAlike (base_fields m p b) (base_fields m q b)
+pub bases_alike : (m : Assignment) (p q : FieldMode) (b : Base) → AreAlike (base_fields m p b) (base_fields m q b)
 bases_alike m p q (Base.Struct name) = structs_alike m p q (structs_in m.typed.program.items) name
 bases_alike m p q k = single_alike p q k
 
-alike_many : (fs gs : List Field) → AreAlike fs gs → length fs ≡ length gs
+pub alike_many : (fs gs : List Field) → AreAlike fs gs → length fs ≡ length gs
 alike_many [] [] h = refl
 alike_many (f ∷ fs) (g ∷ gs) h = ap suc (alike_many fs gs h.1)
 alike_many [] (g ∷ gs) h = absurd h
 alike_many (f ∷ fs) [] h = absurd h
 
-recast_same : (a b : List Sharing) (c d : Content) → c ≡ d → HasPlainLocks c → IsRecast a b c d
-recast_same a b c d is plain = subst (IsRecast a b c) is (is_same c plain)
-
-alike_at : (a b : List Sharing) (fs gs : List Field) → AreAlike fs gs → (k : ℕ) → IsRecast a b (slice_index_or fs k no_field).holds (slice_index_or gs k no_field).holds
-alike_at a b [] [] h k = is_same no_field.holds tt
-alike_at a b (f ∷ fs) (g ∷ gs) h zero = recast_same a b f.holds g.holds h.0.0 h.0.1
-alike_at a b (f ∷ fs) (g ∷ gs) h (suc k) = alike_at a b fs gs h.1 k
-alike_at a b [] (g ∷ gs) h k = absurd h
-alike_at a b (f ∷ fs) [] h k = absurd h
+-- what holds of a content without such a lock and itself holds of the contents at each place
+pub alike_at : (R : Content → Content → Type 0) → ((x : Content) → HasPlainLocks x → R x x) → (fs gs : List Field) → AreAlike fs gs → (k : ℕ) → R (slice_index_or fs k no_field).holds (slice_index_or gs k no_field).holds
+alike_at R same [] [] h k = same no_field.holds tt
+alike_at R same (f ∷ fs) (g ∷ gs) h zero = subst (R f.holds) h.0.0 (same f.holds h.0.1)
+alike_at R same (f ∷ fs) (g ∷ gs) h (suc k) = alike_at R same fs gs h.1 k
+alike_at R same [] (g ∷ gs) h k = absurd h
+alike_at R same (f ∷ fs) [] h k = absurd h
 
 -- ---- the elements of two rows
 record AreRecast (a b : List Sharing) (fs gs : List Field) : Type 0 where
@@ -135,7 +132,10 @@ cells_recast m b [] ys some other forms = absurd (omega (arith, some))
 cells_recast m b (p ∷ below) [] some other forms = absurd (omega (arith, other))
 cells_recast m b (p ∷ []) (q ∷ []) some other forms =
     let alike = bases_alike m (own_mode (form_of p)) (own_mode (form_of q)) b in
-    record { many = alike_many (base_fields m (own_mode (form_of p)) b) (base_fields m (own_mode (form_of q)) b) alike; contents = alike_at (p ∷ []) (q ∷ []) (base_fields m (own_mode (form_of p)) b) (base_fields m (own_mode (form_of q)) b) alike }
+    record {
+      many = alike_many (base_fields m (own_mode (form_of p)) b) (base_fields m (own_mode (form_of q)) b) alike;
+      contents = alike_at (IsRecast (p ∷ []) (q ∷ [])) (λ x plain. is_same x plain) (base_fields m (own_mode (form_of p)) b) (base_fields m (own_mode (form_of q)) b) alike;
+    }
 cells_recast m b (p ∷ []) (q ∷ y ∷ others) some other forms = absurd (no_cons _ _ forms)
 cells_recast m b (p ∷ x ∷ below) (q ∷ []) some other forms = absurd (no_cons _ _ (sym forms))
 cells_recast m b (p ∷ x ∷ below) (q ∷ y ∷ others) some other forms = pointer_cells m b p q x y below others forms

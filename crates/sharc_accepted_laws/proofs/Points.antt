@@ -1,5 +1,5 @@
 -- The locks of what cells refer to: in the table, and by the source.
-use Rattle.sharc_accepted_laws.proofs.{Imports.{◌≡◌, ◌⊎◌, inl, inr, ℕ, zero, suc, ◌+◌, ◌-◌, ◌<◌, ◌≤◌, ◌==◌, Bool, true, false, cond, ◌&&◌, List, [], ◌∷◌, ◌++◌, length, map, refl, ap, sym, ◌∙◌, subst, arith, append_assoc, length-append, option_map, Option, Some, None, is_none, Contains, get_or as slice_index_or, AllByRecursion, Base, Mode, Locked, Path, One, Through as PathThrough, Span, Declaration, Identifier, FieldOperator, Dot, Arrow, Dereference, GlobalDefinition, expressions, in_function, Expression, Named, Kind, object, is_array, Role, Entity, Numbered, declared, entities_in, numbered, is_told_by, Resolution, named_at, declaration_at, variable_kind, global_at, globals_in, functions_in, kind_at, HasType, IsMemberOf, a_field_behind, IsFound, EachTypeFound, EachNameOnce, OnlyNames, EachPathFound, MeetsConstraints, OneType, first_cell, Target, in_global, in_global_at, in_object_at, global_of, own_field, named_target, target, cell_of, Context, Either, is_cell, globals_of, field_place, field_place_named, field_place_behind, Place, pointed, Assignment, RowLaws, PathReading, written, through, Targets, is_constant_named, constant_use, base_use, lock_through, path_variable, read, deeper, entity_row, declared_row, global_row, named_row, behind, reading_through, row_at, modes_of, modes_at, Lock, Sharing, locked, lock_of, sharing_of, text_at, variable_named, is_field, is_sibling_lock, place_of, IsExpression, IsEntity, RulesAreMet, IsAllowed, global_mutex, sibling_mutex, sibling_pointer, through_constant, IsThroughConstant, is_through, MeetsRules, Cell, TypeLock, FieldLock, OfType, OfGlobals, OfElement, StaticType, Global, InRegister as Through, Self, Refers, Label, SameReference, Itself, SameLock, AllSame, no_lock, IsFieldLock, IsGlobalLock, IsAnyLock, IsAnyGlobalLock, AreFieldLocks, IsAccepted, is_held, IsHeldPath, AllHeld, element_locks, pointee_locks, declared_locks, content_locks, BaseIs, IsBased, PlacesPoint, register, lock_named, lock_at, locks_at, static_of, FieldsPlaced, ExpressionsFound, Form, locked_form, form_of, table_lock, field_lock, field_locks, type_locks, lock_count, same_some, none_some, front, each, place_of_element, of_each, to_each}, Arrays.{IsNameOf, array_name}, Holds.expressions_held, Origins.{reading_kept, same_raw, same_lock}, Passed.use_named, Places.{InFile, FileKnown, FieldInFile, file_known, a_member, member, at_number, IfSome}, Noted.all_say, StaticSiblings.{SiblingsAre, siblings_are}, Written.{raw, row_good, found_there}}
+use Rattle.sharc_accepted_laws.proofs.{Imports.{◌≡◌, ◌⊎◌, inl, inr, ℕ, zero, suc, ◌+◌, ◌-◌, ◌<◌, ◌≤◌, ◌==◌, Bool, true, false, cond, ◌&&◌, List, [], ◌∷◌, ◌++◌, length, map, refl, ap, sym, ◌∙◌, subst, arith, append_assoc, length-append, option_map, Option, Some, None, is_none, Contains, get_or as slice_index_or, AllByRecursion, Base, Mode, Locked, Path, One, Through as PathThrough, Span, Declaration, Identifier, FieldOperator, Dot, Arrow, Dereference, GlobalDefinition, expressions, in_function, Expression, Named, Kind, object, is_array, Role, Entity, Numbered, declared, entities_in, numbered, is_told_by, Resolution, named_at, declaration_at, variable_kind, global_at, globals_in, functions_in, kind_at, HasType, IsMemberOf, a_field_behind, IsFound, EachTypeFound, EachNameOnce, OnlyNames, EachPathFound, MeetsConstraints, OneType, first_cell, Target, in_global, in_global_at, in_object_at, global_of, own_field, named_target, target, cell_of, Context, Either, is_cell, globals_of, field_place, field_place_named, field_place_behind, Place, pointed, Assignment, RowLaws, PathReading, written, through, Targets, is_constant_named, constant_use, base_use, lock_through, path_variable, read, deeper, entity_row, declared_row, global_row, named_row, behind, reading_through, row_at, modes_of, modes_at, Lock, Sharing, locked, lock_of, sharing_of, text_at, variable_named, is_field, is_sibling_lock, place_of, IsExpression, IsEntity, RulesAreMet, IsAllowed, global_mutex, sibling_mutex, sibling_pointer, through_constant, IsThroughConstant, is_through, MeetsRules, Cell, TypeLock, FieldLock, OfType, OfGlobals, OfElement, StaticType, Global, InRegister as Through, Self, Refers, Label, SameReference, Itself, SameLock, AllSame, no_lock, IsFieldLock, IsGlobalLock, IsAnyLock, IsAnyGlobalLock, AreFieldLocks, IsAccepted, is_held, IsHeldPath, AllHeld, element_locks, pointee_locks, declared_locks, content_locks, BaseIs, IsBased, PlacesPoint, register, lock_named, lock_at, locks_at, static_of, FieldsPlaced, ExpressionsFound, Form, locked_form, form_of, table_lock, field_lock, field_locks, type_locks, lock_count, same_some, none_some, front, each, place_of_element, of_each, to_each}, Arrays.{IsNameOf, array_name}, Holds.expressions_held, Origins.{reading_kept, same_raw, same_lock}, Passed.use_named, Places.{InFile, FileKnown, FieldInFile, file_known, a_member, member, at_number, IfSome}, Noted.all_say, StaticSiblings.{SiblingsAre, siblings_are}, Written.{raw, row_good, found_there}, Members.first_of}
 use Rattle.sharc_tree.specs.Tree as tree
 use Rattle.sharc_lemmas.proofs.Bools.{no_cell}
 
@@ -299,10 +299,6 @@ module _ (rows : RowLaws) (expressions_found : ExpressionsFound) (one_type : One
       of_each (λ e. HasType r4 e (kind_at r4 e)) (in_function x.owner) e
       (of_each (λ f. AllByRecursion (λ e. HasType r4 e (kind_at r4 e)) (in_function f)) (functions_in r4.program.items) x.owner (constraints r4 a.resolved a.placed a.low) x.stands) x.inside
 
-  own : (e : Expression) → AllByRecursion (IsExpression m4) (expressions e) → IsExpression m4 e
-  own (tree.cast s t a) h = h.0
-  own _ h = h.0
-
   -- of the target of a pointer
   module _ (k : ℕ) where
     below_row : (s : StaticType) (e : Expression) → IsExpression m4 e → (row : Targets) → row_at r4 e ≡ Some row → s.locks ≡ locks_at c (modes_of m4 row)
@@ -392,7 +388,7 @@ module _ (rows : RowLaws) (expressions_found : ExpressionsFound) (one_type : One
       subst (λ y. AllSame IsAnyGlobalLock (locks_at c modes) y) (sym x.content)
       (subst (λ y. AllSame IsAnyGlobalLock (locks_at c y) (declared_locks m4 0 (Named.Global x.number))) same
       (global_locks c globals IsAnyGlobalLock (λ j. refl) 0 (modes_of m4 (global_row r4 written (global_at r4 x.number))) (global_all x.number)))
-  index_points e h modes false kind b is = (static_of c (kind_at r4 e) b.modes, b.entry, any_pointee l reg (static_of c (kind_at r4 e) b.modes) (locks_at c modes) (modes_at m4 e) (pointee 0 e (own e h) b modes is))
+  index_points e h modes false kind b is = (static_of c (kind_at r4 e) b.modes, b.entry, any_pointee l reg (static_of c (kind_at r4 e) b.modes) (locks_at c modes) (modes_at m4 e) (pointee 0 e (first_of (IsExpression m4) e h) b modes is))
 
   -- a member of a struct that is named by `.`, or behind no constant variable
   plain_points : (s : Span) (e : Expression) (w : FieldOperator) (name : Identifier) → IsExpression m4 (tree.field s e w name) → base_use r4 w e ≡ None → (cell : Cell) → CellBased c globals l cell → (n : ℕ) (modes : List Sharing)
@@ -440,7 +436,7 @@ module _ (rows : RowLaws) (expressions_found : ExpressionsFound) (one_type : One
       let place = field_place_named r4 (named_at r4 n.site.token) in
       plain_points s e Dot n h.0 refl (cell_at (target r4 (Some place) e)) (based e (Some place) b) place modes is
   points (tree.field s e Arrow n) modes h is cell b = arrow_points s e n h.0 b (field_place_named r4 (named_at r4 n.site.token)) modes is (expressions_held rules m4 a (tree.field s e Arrow n) modes h is)
-  points (tree.unary s Dereference e) modes h is cell b = (static_of c (kind_at r4 e) b.modes, b.entry, pointee 0 e (own e h.1) b modes is)
+  points (tree.unary s Dereference e) modes h is cell b = (static_of c (kind_at r4 e) b.modes, b.entry, pointee 0 e (first_of (IsExpression m4) e h.1) b modes is)
   points _ modes h is cell b = absurd (no_cell cell)
 
 pub places_point : RowLaws → ExpressionsFound → OneType → RulesAreMet → EachTypeFound → EachPathFound → MeetsConstraints → EachNameOnce → OnlyNames → FieldsPlaced → PlacesPoint

@@ -1,5 +1,5 @@
 -- What the cells of lvalues stand on, by the laws of typed programs and of modes.
-use Rattle.sharc_accepted_laws.proofs.{Imports.{◌≡◌, ℕ, ◌+◌, ◌-◌, ◌<◌, ◌==◌, ◌&&◌, Bool, true, false, cond, length, map, get_or as slice_index_or, refl, ap, sym, ◌∙◌, subst, arith, Option, Some, None, Contains, false≢true, ne_eqb, ltb-true, AllByRecursion, slice_get, nat_lt, Base, Mode, Path, Declaration, WrittenType, GlobalDefinition, StructDefinition, IsLow, IsPlaced, in_function, Named, Role, Kind, object, array, is_array, element_kind, is_struct_base, is_struct_behind, mutex, is_allowed, allowed_there, Entity, Numbered, declared, entities_in, entity_at, positions_of, written_modes, first_depth, Resolution, IsResolved, named_at, kind_at, global_at, structs_in, globals_in, functions_in, named_kind, HasType, IsItself, EachTypeFound, EachNameOnce, OnlyNames, EachNamesItself, MeetsConstraints, OneType, Apart, top_of, first_mode, global_cell, IsLeastAssignment, mode_found, WellModed, Assignment, PathReading, written, targets_from, entity_row, modes_of, otherwise_of, Lock, locked, lock_of, sharing_of, place_of, Place, IsExpression, IsWritten, RulesAreMet, IsAllowed, global_mutex, sibling_mutex, sibling_pointer, through_constant, LvaluesFit, IsArrayOf, ArraysFit, form_of, or_false, and_false, none_some, of_each}, Expressing.expressions_found, TargetForms.same_forms, Found.{IsThere, field_found, global_found, global_low}, Laying.{named_there, members_are}, TargetLists.place_there, Lvalues.{AreReady, names_cell, array_base}, TargetMembers.top_written, Moding.{PathNames, field_or_global}, Rows.IsKnown, Settling.{positioned, settled_by, SettledBy, a_mutex, is_written, is_meant, settled_from, get_dropped, dropped_length}, TargetSiblings.field_allowed, Whole.known, Globals.index_get, Origins.{same_lock}, StaticSiblings.{found_there as member_there}}
+use Rattle.sharc_accepted_laws.proofs.{Imports.{◌≡◌, ℕ, ◌+◌, ◌-◌, ◌<◌, ◌==◌, ◌&&◌, Bool, true, false, cond, length, map, get_or as slice_index_or, refl, ap, sym, ◌∙◌, subst, arith, Option, Some, None, Contains, false≢true, ne_eqb, ltb-true, AllByRecursion, slice_get, nat_lt, Base, Mode, Path, Declaration, WrittenType, GlobalDefinition, StructDefinition, IsLow, IsPlaced, in_function, Named, Role, Kind, object, array, is_array, element_kind, is_struct_base, is_struct_behind, mutex, is_allowed, allowed_there, Entity, Numbered, declared, entities_in, entity_at, positions_of, written_modes, first_depth, Resolution, IsResolved, named_at, kind_at, global_at, structs_in, globals_in, functions_in, named_kind, HasType, IsItself, EachTypeFound, EachNameOnce, OnlyNames, EachNamesItself, MeetsConstraints, OneType, Apart, top_of, first_mode, global_cell, IsLeastAssignment, mode_found, WellModed, Assignment, PathReading, written, targets_from, entity_row, modes_of, otherwise_of, Lock, locked, lock_of, sharing_of, place_of, Place, IsExpression, IsWritten, RulesAreMet, IsAllowed, global_mutex, sibling_mutex, sibling_pointer, through_constant, LvaluesFit, IsArrayOf, ArraysFit, form_of, or_false, and_false, none_some, of_each, place_there}, Expressing.expressions_found, TargetForms.same_forms, Found.{IsThere, field_found, global_found, global_low}, Laying.{named_there, members_are}, Lvalues.{AreReady, names_cell, array_base}, TargetMembers.top_written, Moding.{PathNames, field_or_global}, Rows.IsKnown, Settling.{positioned, settled_by, SettledBy, a_mutex, is_written, is_meant, settled_from, get_dropped, dropped_length}, TargetSiblings.field_allowed, Whole.known, Globals.index_get, Origins.same_lock, StaticSiblings.found_there as member_there}
 
 plain_by : (b : Base) (n : ℕ) → (is_struct_base b ≡ true → nat_lt 0 n ≡ true) → is_struct_behind 0 (object b n) ≡ false
 plain_by (Base.Struct name) n some = let low = ltb-true 0 n (some refl) in ap (λ z. z && true) (ne_eqb n 0 (λ none. omega (arith, low, none)))

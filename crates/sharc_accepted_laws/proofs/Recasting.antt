@@ -1,5 +1,5 @@
 -- What the cells of an object are and refer to does not change by a cast.
-use Rattle.sharc_accepted_laws.proofs.{Imports.{◌≡◌, ℕ, zero, suc, ◌+◌, Bool, true, false, cond, List, [], ◌∷◌, ◌++◌, length, map, drop, refl, ap, sym, ◌∙◌, subst, arith, append_assoc, length-append, option_map, bytes_eq, Option, Some, None, Contains, get_or as slice_index_or, AllByRecursion, Base, Span, Declaration, WrittenType, StructDefinition, in_function, Expression, Named, Kind, object, is_pointer, declared_kind, Resolution, structs_in, functions_in, named_at, kind_at, HasType, a_cast, MeetsConstraints, OneType, pointed, Assignment, base_of, RowLaws, Targets, written, deeper, cast_row, declared_row, row_at, modes_of, modes_at, Sharing, locked, same_all, IsExpression, RulesAreMet, Context, TypeLock, FieldLock, OfType, OfGlobals, OfElement, FieldMode, Content, StaticType, no_field, field_at, InRegister as Through, Label, Itself, SameLock, AllSame, no_lock, IsSameFieldLock, IsSameContent, Recasts, CastsRecast, IsAccepted, lock_at, locks_at, static_of, NumbersFound, ExpressionsFound, Shape, stars_in, form_of, shape_of, row_shape, shapes, number, field_lock, field_locks, table_lock, type_locks, lock_count, own_mode, base_content, pointer_content, declared_content, single, members, struct_fields, base_fields, shape_fields, shape_row, targets_of, same_some, none_some, of_each}, Points.nth, Same.{forms_of_same, locks_of_same}}
+use Rattle.sharc_accepted_laws.proofs.{Imports.{◌≡◌, ℕ, zero, suc, ◌+◌, true, List, [], ◌∷◌, ◌++◌, length, map, drop, refl, ap, sym, ◌∙◌, subst, arith, append_assoc, length-append, option_map, Option, Some, None, Contains, get_or as slice_index_or, AllByRecursion, Base, Span, WrittenType, in_function, Expression, Kind, object, declared_kind, Resolution, functions_in, kind_at, HasType, a_cast, MeetsConstraints, OneType, pointed, Assignment, base_of, RowLaws, Targets, deeper, cast_row, row_at, modes_of, modes_at, Sharing, locked, same_all, IsExpression, RulesAreMet, Context, TypeLock, FieldLock, OfType, OfGlobals, OfElement, Content, StaticType, no_field, field_at, InRegister as Through, Label, Itself, SameLock, AllSame, no_lock, IsSameFieldLock, IsSameContent, Recasts, CastsRecast, IsAccepted, lock_at, locks_at, static_of, NumbersFound, ExpressionsFound, Shape, stars_in, form_of, shape_of, row_shape, shapes, number, type_locks, lock_count, own_mode, base_fields, shape_fields, shape_row, targets_of, same_some, none_some, of_each, IsPlainLock, HasPlainLocks, Pointer}, Points.nth, Same.{forms_of_same, locks_of_same}, Pointees.{bases_alike, alike_many, alike_at}}
 use Rattle.sharc_tree.specs.Tree as tree
 
 -- ---- locks
@@ -42,87 +42,33 @@ module _ (c : Context) (l : Label) (r : ℕ) (s t : StaticType) where
       )
   types_same (_ ∷ rest) pre other j k p q m n = types_same rest pre other j k p q m n
 
-  -- ---- what is declared in a struct
-  one_declared : (f : FieldLock) → ((k : ℕ) → f ≡ OfType k → ⊥) → Same f f
-  one_declared (OfType k) none = absurd (none k refl)
-  one_declared (OfGlobals j) none = refl
-  one_declared (OfElement field mutex) none = (refl, refl)
-
-  locks_declared : (res : Resolution) (n : ℕ) (modes : List Sharing) → AllSame Same (field_locks res n modes) (field_locks res n modes)
-  locks_declared res n [] = tt
-  locks_declared res n (locked lock ∷ rest) = (one_declared (field_lock res n lock) (no_type (named_at res lock.first)), locks_declared res n rest)
-    where
-      no_type : (w : Named) (k : ℕ) → table_lock res n w ≡ OfType k → ⊥
-      no_type (Named.Field f) k h = cc
-      no_type _ k h = cc
-  locks_declared res n (_ ∷ rest) = locks_declared res n rest
+  -- ---- contents without a lock of a type
+  locks_same : (locks : List FieldLock) → AllByRecursion IsPlainLock locks → AllSame Same locks locks
+  locks_same [] plain = tt
+  locks_same (OfType k ∷ rest) plain = absurd plain.0
+  locks_same (OfGlobals j ∷ rest) plain = (refl, locks_same rest plain.1)
+  locks_same (OfElement field mutex ∷ rest) plain = ((refl, refl), locks_same rest plain.1)
 
   abbrev SameHolds : Content → Content → Type 0
   SameHolds a b = IsSameContent l r s t a b
 
-  base_same : (b : Base) → SameHolds (base_content b) (base_content b)
-  base_same (Base.Struct name) = refl
-  base_same _ = refl
-
-  declared_same : (m : Assignment) (n : ℕ) (d : Declaration) → SameHolds (declared_content m n d) (declared_content m n d)
-  declared_same m n d = by (is_pointer (declared_kind d.written))
-    where
-      by : (b : Bool) → SameHolds (cond b (pointer_content m n d.written.ctype.base (modes_of m (declared_row m.typed written d.name.site.token))) (base_content d.written.ctype.base))
-          (cond b (pointer_content m n d.written.ctype.base (modes_of m (declared_row m.typed written d.name.site.token))) (base_content d.written.ctype.base))
-      by true = (refl, locks_declared m.typed n (modes_of m (declared_row m.typed written d.name.site.token)))
-      by false = base_same d.written.ctype.base
-
-  members_same : (m : Assignment) (q p : FieldMode) (n i : ℕ) (ds : List Declaration) → SameHolds (slice_index_or (members m q n ds) i no_field).holds (slice_index_or (members m p n ds) i no_field).holds
-  members_same m q p n i [] = refl
-  members_same m q p n zero (d ∷ rest) = declared_same m n d
-  members_same m q p n (suc i) (d ∷ rest) = members_same m q p (n + 1) i rest
-
-  single_same : (q p : FieldMode) (b : Base) (i : ℕ) → SameHolds (slice_index_or (single q b ∷ []) i no_field).holds (slice_index_or (single p b ∷ []) i no_field).holds
-  single_same q p Base.Int zero = refl
-  single_same q p _ zero = refl
-  single_same q p _ (suc i) = refl
-
-  structs_same : (m : Assignment) (q p : FieldMode) (i : ℕ) (list : List StructDefinition) (name : List ℕ) → SameHolds (slice_index_or (struct_fields m q list name) i no_field).holds (slice_index_or (struct_fields m p list name) i no_field).holds
-  structs_same m q p i [] name = single_same q p (Base.Struct name) i
-  structs_same m q p i (x ∷ rest) name = by (bytes_eq x.name.text name) (structs_same m q p i rest name)
-    where
-      by : (b : Bool) → SameHolds (slice_index_or (struct_fields m q rest name) i no_field).holds (slice_index_or (struct_fields m p rest name) i no_field).holds
-          → SameHolds (slice_index_or (cond b (members m q 0 x.fields) (struct_fields m q rest name)) i no_field).holds (slice_index_or (cond b (members m p 0 x.fields) (struct_fields m p rest name)) i no_field).holds
-      by true later = members_same m q p 0 i x.fields
-      by false later = later
-
-  bases_same : (m : Assignment) (q p : FieldMode) (b : Base) (i : ℕ) → SameHolds (slice_index_or (base_fields m q b) i no_field).holds (slice_index_or (base_fields m p b) i no_field).holds
-  bases_same m q p (Base.Struct name) i = structs_same m q p i (structs_in m.typed.program.items) name
-  bases_same m q p k i = single_same q p k i
+  content_same : (x : Content) → HasPlainLocks x → SameHolds x x
+  content_same (Pointer to) plain = (refl, locks_same to.locks plain)
+  content_same _ plain = refl
 
   -- ---- elements
   fields_same : (m : Assignment) (b : Base) (q p : Sharing) (rest : List Sharing) → s.locks ≡ locks_at c (q ∷ rest) → t.locks ≡ locks_at c (p ∷ rest) → (i : ℕ)
       → SameHolds (slice_index_or (shape_fields m b (map form_of (q ∷ rest))) i no_field).holds (slice_index_or (shape_fields m b (map form_of (p ∷ rest))) i no_field).holds
-  fields_same m b q p [] x y i = bases_same m (own_mode (form_of q)) (own_mode (form_of p)) b i
+  fields_same m b q p [] x y i =
+      alike_at SameHolds content_same (base_fields m (own_mode (form_of q)) b) (base_fields m (own_mode (form_of p)) b) (bases_alike m (own_mode (form_of q)) (own_mode (form_of p)) b) i
   fields_same m b q p (z ∷ rest) x y zero =
       (refl, types_same (z ∷ rest) (first_lock c q) (first_lock c p) (lock_count (form_of q)) (lock_count (form_of p)) (x ∙ locks_first c q (z ∷ rest)) (y ∙ locks_first c p (z ∷ rest)) (count_first c q) (count_first c p))
   fields_same m b q p (z ∷ rest) x y (suc i) = refl
 
 -- ---- as many cells
-members_many : (m : Assignment) (q p : FieldMode) (n : ℕ) (ds : List Declaration) → length (members m q n ds) ≡ length (members m p n ds)
-members_many m q p n [] = refl
-members_many m q p n (d ∷ rest) = ap suc (members_many m q p (n + 1) rest)
-
-structs_many : (m : Assignment) (q p : FieldMode) (list : List StructDefinition) (name : List ℕ) → length (struct_fields m q list name) ≡ length (struct_fields m p list name)
-structs_many m q p [] name = refl
-structs_many m q p (x ∷ rest) name = by (bytes_eq x.name.text name) (structs_many m q p rest name)
-  where
-    by : (b : Bool) → length (struct_fields m q rest name) ≡ length (struct_fields m p rest name)
-        → length (cond b (members m q 0 x.fields) (struct_fields m q rest name)) ≡ length (cond b (members m p 0 x.fields) (struct_fields m p rest name))
-    by true later = members_many m q p 0 x.fields
-    by false later = later
-
-bases_many : (m : Assignment) (q p : FieldMode) (b : Base) → length (base_fields m q b) ≡ length (base_fields m p b)
-bases_many m q p (Base.Struct name) = structs_many m q p (structs_in m.typed.program.items) name
-bases_many m q p _ = refl
-
 fields_many : (m : Assignment) (b : Base) (q p : Sharing) (rest : List Sharing) → length (shape_fields m b (map form_of (q ∷ rest))) ≡ length (shape_fields m b (map form_of (p ∷ rest)))
-fields_many m b q p [] = bases_many m (own_mode (form_of q)) (own_mode (form_of p)) b
+fields_many m b q p [] =
+    alike_many (base_fields m (own_mode (form_of q)) b) (base_fields m (own_mode (form_of p)) b) (bases_alike m (own_mode (form_of q)) (own_mode (form_of p)) b)
 fields_many m b q p (z ∷ rest) = refl
 
 -- ---- types that differ in their first mode alone

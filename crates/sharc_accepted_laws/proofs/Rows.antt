@@ -46,8 +46,7 @@ module _ (m : Assignment) (known : IsKnown m) where
   pub ends_within : (n : Numbered) → IsEntity m n → n.first + positions_of n.entity ≤ length m.modes
   ends_within n is =
       let ends = (positioned (entities_in m.typed.program.items) 0 n is).ends in
-      let size = known.least.modes in
-      omega (arith, ends, size)
+      omega (arith, ends, known.least.modes)
 
   pub targets_many : (n : Numbered) → IsEntity m n → is_pointer (declared_kind n.entity.written) ≡ true → 0 < length (map form_of (modes_of m (entity_row written (Some n))))
   targets_many n is pointer =

@@ -67,15 +67,12 @@ pub record SettledAt (m : Assignment) (n : Numbered) (k : ℕ) (mode : Mode) : T
 
 pub settled_by : (m : Assignment) → IsLeastAssignment m → (n : Numbered) → IsPositioned (entities_in m.typed.program.items) 0 n → (k : ℕ) (mode : Mode) → k < positions_of n.entity → slice_get m.modes (n.first + k) ≡ Some mode → SettledAt m n k mode
 settled_by m least n w k mode low at =
-    let first = w.first in
-    let z : n.first + k ≡ w.skip + k = omega (arith, first) in
-    let size = least.modes in
+    let z : n.first + k ≡ w.skip + k = omega (arith, w.first) in
     let g = get_index m.modes (n.first + k) mode Private at in
-    let inside = g.0 in
     let same : settled_at m.typed (n.first + k) ≡ slice_index_or (settled_modes n.entity) k (Some Private) = ap (λ p. slice_index_or (settled_in (entities_in m.typed.program.items)) p (Some Private)) z ∙ w.levels k low in
     record {
       finding = finding_at least.findings (n.first + k);
-      found = ap (λ o. mode_found o (finding_at least.findings (n.first + k))) (sym same) ∙ sym (least.mode (n.first + k) (omega (arith, inside, size))) ∙ g.1;
+      found = ap (λ o. mode_found o (finding_at least.findings (n.first + k))) (sym same) ∙ sym (least.mode (n.first + k) (omega (arith, g.0, least.modes))) ∙ g.1;
     }
 
 -- ---- what is settled by what is written

@@ -1,5 +1,5 @@
 -- The cell of an lvalue is there, with what stands beside it in its element.
-use Rattle.sharc_accepted_laws.proofs.{Imports.{◌≡◌, inl, inr, ⊎_elim, ℕ, ◌+◌, ◌<◌, Bool, true, false, List, [], ◌∷◌, length, get_or as slice_index_or, refl, ap, sym, ◌∙◌, subst, arith, cond, option_map, Option, Some, None, Span, Dot, Arrow, Dereference, Expression, parentheses, index, field, unary, is_array, Code, Cell, elements_of, Resolution, named_at, global_at, globals_in, kind_at, MeetsGlobal, MeetsGlobals, global_elements, field_place_named, cell_at, Assignment, modes_of, Sharing, locked, first_cell, Context, Target, global_of, in_global, in_global_at, in_object, in_object_at, target, cell_of, guard_cell, own_field, beside_field, lock_beside, lock_cell, globals_of, StaticType, Field, no_field, row_of, Refers, Element, OfGlobal, Label, static_of, BesideFits, AreLockedBeside, LocksStandBeside, GlobalsAre, ExpressionsFound, FieldFits, IsBehindPointer, IsInFile, IsOfObject, IsOfGlobal, NamesCell, no_cell, of_object, of_global, LvaluesFit, pointer_of, expression_shape, number, global_element, targets_of, HasBaseIn, HasIndexOf, IsCellNumber, IsPlaceNumber, HaveTarget, list_or, modes_of_pointer, modes_behind, kind_of_pointer, base_type, cells_in_each, IsCellLvalue, IsCodeOf, CellsStand, AccessesFit, GuardsFit}, AccessCells.{IsCellOf, ArePairOf, object_cell, element_cell, object_pair, element_pair, global_cell_at, global_pair, place_cell, place_pair}, Modes.{reaches, around, guard_there, HasAround, IsOnBase}, AccessLists.each_at, TargetLists.{place_there as there_at}}
+use Rattle.sharc_accepted_laws.proofs.{Imports.{◌≡◌, inl, inr, ⊎_elim, ℕ, ◌+◌, ◌<◌, Bool, true, false, List, [], ◌∷◌, length, get_or as slice_index_or, refl, ap, sym, ◌∙◌, subst, arith, cond, option_map, Option, Some, None, Span, Dot, Arrow, Dereference, Expression, parentheses, index, field, unary, is_array, Code, Cell, elements_of, Resolution, named_at, global_at, globals_in, kind_at, MeetsGlobal, MeetsGlobals, global_elements, field_place_named, cell_at, Assignment, modes_of, Sharing, locked, first_cell, Context, Target, global_of, in_global, in_global_at, in_object, in_object_at, target, cell_of, guard_cell, own_field, beside_field, lock_beside, lock_cell, globals_of, StaticType, Field, no_field, row_of, Refers, Element, OfGlobal, Label, static_of, BesideFits, AreLockedBeside, LocksStandBeside, GlobalsAre, ExpressionsFound, FieldFits, IsBehindPointer, IsInFile, IsOfObject, IsOfGlobal, NamesCell, no_cell, of_object, of_global, LvaluesFit, pointer_of, expression_shape, number, global_element, targets_of, HasBaseIn, HasIndexOf, IsCellNumber, IsPlaceNumber, HaveTarget, list_or, modes_of_pointer, modes_behind, kind_of_pointer, base_type, cells_in_each, IsCellLvalue, IsCodeOf, CellsStand, AccessesFit, GuardsFit, each_at, place_there as there_at}, AccessCells.{IsCellOf, ArePairOf, object_cell, element_cell, object_pair, element_pair, global_cell_at, global_pair, place_cell, place_pair}, Modes.{reaches, around, guard_there, HasAround, IsOnBase}}
 use Rattle.sharc_flat.specs.Places.{variable, field_of}
 
 index_here : (i : ℕ) (beside : Option ℕ) (Is : ℕ → ℕ → Type 0) (n : ℕ) → HasIndexOf i beside Is n → Is i n

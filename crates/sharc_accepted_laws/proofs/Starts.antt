@@ -1,5 +1,5 @@
 -- Functions with which a thread begins, main among them; and a whole program.
-use Rattle.sharc_accepted_laws.proofs.{Imports.{◌≡◌, ⊎_elim, ℕ, ◌<◌, ◌≤◌, Bool, true, cond, List, [], ◌∷◌, length, nat_lt, slice_get, refl, ap, sym, ◌∙◌, subst, arith, eqb-true, Option, Some, None, codes, false≢true, or_cases, or_right, bytes_eq-Decides, IsSomeAnd, list_any, Declaration, in_function, Function, Named, int, declared_kind, GlobalCells, Code, spawns, of_all, Names, Spawns, Resolution, functions_in, function_at, named_at, SpawnsThreads, HasMain, OneFunctionOfName, WithinLimits, is_reference, Assignment, IsMainOf, parameters_scope, int_count, ref_count, globals_of, Anything, Within, EntryMentions, BasesStand, held_named, ResultLaws, FunctionsStand, SpawnedBegin, pointers, variable_entry, VariablesFound, typing, signature_by, is_numbered, is_spawned, is_main, is_start, setting_of, IsSet, ExpressionsAreTypable, ProgramsAreTypable, Setting, IsLowTyping, StartTypable, MainTypable, TypedSuits, place_of_element}, Assigned.Laws, Functions.{TypeLaws, function_typable}, Linked.linked, StaticRegisters.{pointer_count, got_low}, TargetLists.place_there, StaticLists.passes_there}
+use Rattle.sharc_accepted_laws.proofs.{Imports.{◌≡◌, ⊎_elim, ℕ, ◌<◌, ◌≤◌, Bool, true, cond, List, [], ◌∷◌, length, nat_lt, slice_get, refl, ap, sym, ◌∙◌, subst, arith, eqb-true, Option, Some, None, codes, false≢true, or_cases, or_right, bytes_eq-Decides, IsSomeAnd, list_any, Declaration, in_function, Function, Named, int, declared_kind, GlobalCells, Code, spawns, of_all, Names, Spawns, Resolution, functions_in, function_at, named_at, SpawnsThreads, HasMain, OneFunctionOfName, WithinLimits, is_reference, Assignment, IsMainOf, parameters_scope, int_count, ref_count, globals_of, Anything, Within, EntryMentions, BasesStand, held_named, ResultLaws, FunctionsStand, SpawnedBegin, pointers, variable_entry, VariablesFound, typing, signature_by, is_numbered, is_spawned, is_main, is_start, setting_of, IsSet, ExpressionsAreTypable, ProgramsAreTypable, Setting, IsLowTyping, StartTypable, MainTypable, TypedSuits, place_of_element, below_there, place_there}, Assigned.Laws, Functions.{TypeLaws, function_typable}, Linked.linked, StaticRegisters.pointer_count, StaticLists.passes_there}
 use Rattle.sharc_flat.specs.Flattened as flat
 use Rattle.sharc_invariant.specs.Typed.{IsPlain}
 
@@ -9,7 +9,7 @@ low_typing c p held = by (slice_get (pointers c.scope) p) refl held
   where
     by : (o : Option ℕ) → slice_get (pointers c.scope) p ≡ o → held_named c.program.typed o ≡ true → p < ref_count c.scope
     by None is h = absurd (false≢true h)
-    by (Some x) is h = let low = got_low (pointers c.scope) p x is in let n = pointer_count c.scope in omega (arith, low, n)
+    by (Some x) is h = let low = below_there (pointers c.scope) p x is in let n = pointer_count c.scope in omega (arith, low, n)
 
 -- ---- what is spawned
 names_it : (n : ℕ) (w : Named) → is_numbered n w ≡ true → w ≡ Named.Function n
@@ -90,7 +90,7 @@ module _ (starts : ThreadLaws) (stand : FunctionsStand) (m : Assignment) (global
   main_is n k =
       let x = main_at n k.0 k.1 k.2 in
       let named : is_main (function_at m.typed n) ≡ true = ap is_main k.1 ∙ (bytes_eq-Decides k.0.name.text (codes "main")).1 k.2 in
-      let low = got_low (functions_in m.typed.program.items) n k.0 k.1 in
+      let low = below_there (functions_in m.typed.program.items) n k.0 k.1 in
       let few = (starts.limits m.typed.program set.accepted.resolved.typed).functions in
       record {
         starts = or_right (is_spawned m.typed n) (is_main (function_at m.typed n)) named;

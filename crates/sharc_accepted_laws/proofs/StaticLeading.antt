@@ -1,5 +1,5 @@
 -- The lock paths of the types of expressions lead to mutexes: those that are written by M4, and those that the uses of fields make by M11 and the fields' types.
-use Rattle.sharc_accepted_laws.proofs.{Imports.{◌≡◌, ◌⊎◌, inl, inr, ⊎_elim, ℕ, suc, ◌+◌, ◌<◌, true, cond, ◌&&◌, List, [], ◌∷◌, ◌++◌, length, map, drop, slice_get, refl, ap, sym, ◌∙◌, subst, arith, Option, Some, None, is_none, Contains, false≢true, AllByRecursion, Base, Mode, Locked, Path, One, Through as PathThrough, Span, Declaration, Identifier, WrittenType, FieldOperator, Dot, Arrow, GlobalDefinition, StructDefinition, expressions, in_function, Expression, Function, Named, Kind, object, mutex, declared_kind, field_of, Role, Entity, Numbered, declared, cast_entity, result_of, entity_at, notes_about, Resolution, named_at, declaration_at, variable_kind, named_kind, global_at, function_at, globals_in, functions_in, structs_in, kind_at, locals_in_all, HasType, Callee, IsMemberOf, struct_named, of_program, of_conditions, a_variable, a_global, a_function, a_field, a_field_behind, IsItself, NamesOwn, NamesOwnVariables, IsFound, EachTypeFound, EachNameOnce, OnlyNames, EachNamesItself, EachNamesOwn, EachPathFound, MeetsConstraints, OneType, IsNamedPath, IsNamedLevel, IsNamedType, Place, Assignment, PathReading, written, through, constant_use, base_use, lock_through, read, entity_row, declared_row, global_row, named_row, result_row, called_row, behind, reading_through, row_at, modes_of, modes_at, field_target, settled_modes, Lock, Sharing, locked, lock_of, sharing_of, text_at, is_field, is_sibling_lock, leaves_open, place_of, IsExpression, IsEntity, RulesAreMet, IsMutexBehind, IsAllowed, global_mutex, sibling_mutex, sibling_pointer, through_constant, MeetsRules, IsAccepted, LeadsToMutex, by_global, by_variable, LeadsIfLocked, AllLead, ExpressionsLead, FieldsPlaced, IsOwn, IsCastFound, HasOwn, OwnAreFound, same_some, none_some, each, head_there, head_or_tail, of_each, to_each, tail_there, none_there}, Noted.{AllSay, all_say}, Origins.{reading_kept, same_lock}, RowModes.{RowHolds, modes_hold, rows_hold}, Passed.{use_named, first_kind}, Places.{InFile, FileKnown, file_known, at_number, IfSome, a_member}, Points.{NamesField, ModeOf, LevelOf, allowed_row, shown_modes, entity_is, through_used}, StaticSiblings.{found_there, points_to, is_beside}, Written.{raw, row_settled, open_good}, TargetLists.place_there, Laying.{named_there as struct_there}}
+use Rattle.sharc_accepted_laws.proofs.{Imports.{◌≡◌, ◌⊎◌, inl, inr, ⊎_elim, ℕ, suc, ◌+◌, ◌<◌, true, cond, ◌&&◌, List, [], ◌∷◌, ◌++◌, length, map, drop, slice_get, refl, ap, sym, ◌∙◌, subst, arith, Option, Some, None, is_none, Contains, false≢true, AllByRecursion, Base, Mode, Locked, Path, One, Through as PathThrough, Span, Declaration, Identifier, WrittenType, FieldOperator, Dot, Arrow, GlobalDefinition, StructDefinition, expressions, in_function, Expression, Function, Named, Kind, object, mutex, declared_kind, field_of, Role, Entity, Numbered, declared, cast_entity, result_of, entity_at, notes_about, Resolution, named_at, declaration_at, variable_kind, named_kind, global_at, function_at, globals_in, functions_in, structs_in, kind_at, locals_in_all, HasType, Callee, IsMemberOf, struct_named, of_program, of_conditions, a_variable, a_global, a_function, a_field, a_field_behind, IsItself, NamesOwn, NamesOwnVariables, IsFound, EachTypeFound, EachNameOnce, OnlyNames, EachNamesItself, EachNamesOwn, EachPathFound, MeetsConstraints, OneType, IsNamedPath, IsNamedLevel, IsNamedType, Place, Assignment, PathReading, written, through, constant_use, base_use, lock_through, read, entity_row, declared_row, global_row, named_row, result_row, called_row, behind, reading_through, row_at, modes_of, modes_at, field_target, settled_modes, Lock, Sharing, locked, lock_of, sharing_of, text_at, is_field, is_sibling_lock, leaves_open, place_of, IsExpression, IsEntity, RulesAreMet, IsMutexBehind, IsAllowed, global_mutex, sibling_mutex, sibling_pointer, through_constant, MeetsRules, IsAccepted, LeadsToMutex, by_global, by_variable, LeadsIfLocked, AllLead, ExpressionsLead, FieldsPlaced, IsOwn, IsCastFound, HasOwn, OwnAreFound, same_some, none_some, each, head_there, head_or_tail, of_each, to_each, tail_there, none_there, place_there}, Noted.{AllSay, all_say}, Origins.{reading_kept, same_lock}, RowModes.{RowHolds, modes_hold, rows_hold}, Passed.{use_named, first_kind}, Places.{InFile, FileKnown, file_known, at_number, IfSome, a_member}, Points.{NamesField, ModeOf, LevelOf, allowed_row, shown_modes, entity_is, through_used}, StaticSiblings.{found_there, points_to, is_beside}, Written.{raw, row_settled, open_good}, Laying.named_there as struct_there}
 use Rattle.sharc_tree.specs.Tree as tree
 
 -- ---- levels

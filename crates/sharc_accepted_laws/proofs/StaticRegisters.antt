@@ -1,5 +1,5 @@
 -- The registers of variables: each pointer has its own, and keeps it where more variables stand.
-use Rattle.sharc_accepted_laws.proofs.Imports.{front_got, ◌≡◌, ◌⊎◌, inl, inr, ℕ, zero, suc, ◌+◌, ◌<◌, ◌==◌, Bool, true, false, cond, List, [], ◌∷◌, ◌++◌, length, slice_get, refl, ap, sym, ◌∙◌, subst, arith, eqb-true, append_assoc, Option, Some, None, false≢true, got_none, Register, Int, Reference, Named, Kind, named_at, declaration_at, variable_kind, field_place_behind, Assignment, base_of, written, declared_row, modes_of, Lock, Sharing, locked, Slot, Context, slot_kind, ref_count, register_from, register_of, number_in, PathNamed, PathStands, shape_of, number, register, lock_named, lock_at, locks_at, static_of, variable_type, pointers, entry_named, AllStand, DeclaredStands, IsClosedScope, with_more, HasRegister, HasOneVariable, OthersAreEmpty, NamesVariables, NamesLower, EntriesStay, NoneIsClosed, OneMoreIsClosed, FewerAreClosed, ScopeLaws, SomeNames, Mentions, InRegister as Through, Refers, EntryMentions, same_some, none_some}
+use Rattle.sharc_accepted_laws.proofs.Imports.{front_got, ◌≡◌, ◌⊎◌, inl, inr, ℕ, zero, suc, ◌+◌, ◌<◌, ◌==◌, Bool, true, false, cond, List, [], ◌∷◌, ◌++◌, length, slice_get, refl, ap, sym, ◌∙◌, subst, arith, eqb-true, append_assoc, Option, Some, None, false≢true, got_none, Register, Int, Reference, Named, Kind, named_at, declaration_at, variable_kind, field_place_behind, Assignment, base_of, written, declared_row, modes_of, Lock, Sharing, locked, Slot, Context, slot_kind, ref_count, register_from, register_of, number_in, PathNamed, PathStands, shape_of, number, register, lock_named, lock_at, locks_at, static_of, variable_type, pointers, entry_named, AllStand, DeclaredStands, IsClosedScope, with_more, HasRegister, HasOneVariable, OthersAreEmpty, NamesVariables, NamesLower, EntriesStay, NoneIsClosed, OneMoreIsClosed, FewerAreClosed, ScopeLaws, SomeNames, Mentions, InRegister as Through, Refers, EntryMentions, same_some, none_some, below_there}
 use Rattle.sharc_invariant.specs.Types.{Names}
 
 -- ---- where a pointer is
@@ -67,16 +67,11 @@ pointer_count (z ∷ rest) = by z.is_pointer (pointer_count rest)
     by true e = omega (arith, e)
     by false e = e
 
-pub got_low : {A : Type 0} (list : List A) (k : ℕ) (x : A) → slice_get list k ≡ Some x → k < length list
-got_low [] k x h = absurd (none_some x h)
-got_low (y ∷ rest) zero x h = omega arith
-got_low (y ∷ rest) (suc k) x h = let low = got_low rest k x h in omega (arith, low)
-
 pub register_at : (c : Context) (x : ℕ) → slot_kind c.scope x ≡ Some true → slice_get (pointers c.scope) (register c x) ≡ Some x
 register_at c x h = let f = at_register c.scope x h in ap (slice_get (pointers c.scope)) f.is ∙ f.token
 
 pub register_low : (c : Context) (x : ℕ) → slot_kind c.scope x ≡ Some true → register c x < ref_count c.scope
-register_low c x h = let low = got_low (pointers c.scope) (register c x) x (register_at c x h) in let n = pointer_count c.scope in omega (arith, low, n)
+register_low c x h = let low = below_there (pointers c.scope) (register c x) x (register_at c x h) in let n = pointer_count c.scope in omega (arith, low, n)
 
 has_register : HasRegister
 has_register c x h = (register_low c x h, register_at c x h, ap (entry_named c) (register_at c x h))
@@ -212,9 +207,7 @@ lower_type c r q x closed got h =
     let same : register inner n.variable ≡ register c n.variable =
     sym (ap number_in (ap (λ l. register_of l n.variable) s.whole ∙ from_more (s.slot ∷ s.after) 0 0 s.before n.variable true n.stands)) in
     let low = register_low inner n.variable n.stands in
-    let count = s.count in
-    let is = n.is in
-    omega (arith, low, same, count, is)
+    omega (arith, low, same, s.count, n.is)
 
 pub names_lower : NamesLower
 names_lower c r q closed h = by (slice_get (pointers c.scope) r) refl h

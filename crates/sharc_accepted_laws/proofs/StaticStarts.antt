@@ -1,5 +1,5 @@
 -- Functions with which a thread begins.
-use Rattle.sharc_accepted_laws.proofs.{Imports.{◌≡◌, ◌≢◌, ℕ, zero, suc, ◌<◌, ◌||◌, Bool, true, false, cond, List, [], ◌∷◌, length, refl, ap, sym, ◌∙◌, subst, arith, slice_get, Option, Some, Contains, false≢true, ltb-true, ne_eqb, Base, Declaration, Function, Kind, object, void, is_pointer, is_null, declared_kind, GlobalCells, Parameter, Spawns, function_at, functions_in, declaration_at, variable_kind, IsThread, AllFair, EachNamesItself, SpawnsThreads, is_reference, pointed, Assignment, base_of, RowLaws, written, deeper, declared_row, modes_of, Sharing, private, RulesAreMet, parameters_scope, parameter_of, context_in as in_function, Context, Empty, Refers, EntryMentions, row_of, globals_target, IsShared, IsAccepted, IsClosedScope, BeginsAlone, SpawnedBegin, variable_type, pointers, entry_named, variable_entry, NumbersFound, VariablesFound, Shape, shape_of, stars_in, number, starts_private, targets_of, same_some, head_there}, Given.parameter_declared, StaticRegisters.names_lower, TargetLists.place_there}
+use Rattle.sharc_accepted_laws.proofs.{Imports.{◌≡◌, ◌≢◌, ℕ, zero, suc, ◌<◌, ◌||◌, Bool, true, false, cond, List, [], ◌∷◌, length, refl, ap, sym, ◌∙◌, subst, arith, slice_get, Option, Some, Contains, false≢true, ltb-true, ne_eqb, Base, Declaration, Function, Kind, object, void, is_pointer, is_null, declared_kind, GlobalCells, Parameter, Spawns, function_at, functions_in, declaration_at, variable_kind, IsThread, AllFair, EachNamesItself, SpawnsThreads, is_reference, pointed, Assignment, base_of, RowLaws, written, deeper, declared_row, modes_of, Sharing, private, RulesAreMet, parameters_scope, parameter_of, context_in as in_function, Context, Empty, Refers, EntryMentions, row_of, globals_target, IsShared, IsAccepted, IsClosedScope, BeginsAlone, SpawnedBegin, variable_type, pointers, entry_named, variable_entry, NumbersFound, VariablesFound, Shape, shape_of, stars_in, number, starts_private, targets_of, same_some, head_there, place_there}, Given.parameter_declared, StaticRegisters.names_lower}
 use Rattle.sharc_invariant.specs.Types.{Targets, is_private}
 
 -- a row whose target is not private
@@ -74,8 +74,7 @@ module _ (rows : RowLaws) (numbers_found : NumbersFound) (variables_found : Vari
       let row = declared_row m.typed written thread.parameter.name.site.token in
       let fits = variables_found m a.resolved a.placed a.low a.least.modes thread.parameter.name.site.token thread.parameter is_declared written in
       let stars = stars_some (declared_kind thread.parameter.written) pointer in
-      let count = fits.count in
-      let some : 0 < row.count = omega (arith, stars, count) in
+      let some : 0 < row.count = omega (arith, stars, fits.count) in
       let first = rows.begins m row some fits.ends in
       let shape : Shape = shape_of (base_of (declared_kind thread.parameter.written)) (modes_of m row) in
       let found = numbers_found m shape (fits.there some) in

@@ -1,5 +1,5 @@
 -- The lock paths of types lead through pointers that stand: over all statements of a function, with the variables that stand at each.
-use Rattle.sharc_accepted_laws.proofs.{Imports.{◌≡◌, ◌⊎◌, inl, inr, ℕ, ◌==◌, Bool, true, false, cond, List, [], ◌∷◌, ◌++◌, length, map, refl, ap, sym, ◌∙◌, subst, eqb-true, append-nil, append_assoc, Option, Some, None, Contains, AllByRecursion, Declaration, expressions, in_option, in_right, in_simple, in_local, in_first, in_statement, in_statements, in_function, Expression, Right, value, malloc, Simple, assign, does_call, Local, First, nothing, declares, does, Statement, Statements, no_statements, statement, Function, Item, structure, global, function, GlobalCells, Named, Scope, is_pointer, Entry, Role, declared as entity_declared, casts, local_entities, first_entities, head_entities, statement_entities, statements_entities, result_of, function_entities, entities_in, with_parameters, in_body, file_scope, Resolution, functions_in, declaration_at, variable_kind, Around, opened, looping, with_names, is_here, behind_first, after, first_locals, locals_in_all, IsItself, IsFound, EachTypeFound, EachNameOnce, OnlyNames, EachNamesItself, EachNamesFound, EachPathFound, MeetsConstraints, NamesFound, meaning_token, IsVariableIn, TypeStands, PathsAt, FirstRead, LocalsStand, AllLocalsStand, around_in, BodyStands, Placing, at, places_in_local, places_in_first, places_in, places_in_all, places_of, places_of_all, IsLeastAssignment, Assignment, written, Slot, with_variable, flat_behind_first, behind_statement, parameters_scope, Context, slot_of, slot_kind, DeclaredStands, IsClosedScope, ExpressionStands, ExpressionsStand, LocalStands, FirstStands, StatementStands, StatementsStand, FunctionStands, FunctionsStand, eqb_same, same_some, none_some, front, back, both, head_there, together, of_each, tail_there}, Noted.{all_say, parameters_closed}, Scoping.ParametersStand, FileNames.in_file, Places.{right_kind, Here, FileKnown, file_known, found_stands, reads_written, Seen, all_stand, casts_found, PlaceKnown, IsTyped, seen_by}, StaticRegisters.{kind_more, all_still, none_closed, more_closed}}
+use Rattle.sharc_accepted_laws.proofs.{Imports.{◌≡◌, ◌⊎◌, inl, inr, ℕ, ◌==◌, Bool, true, false, cond, List, [], ◌∷◌, ◌++◌, length, map, refl, ap, sym, ◌∙◌, subst, eqb-true, append-nil, append_assoc, Option, Some, None, Contains, AllByRecursion, Declaration, expressions, in_option, in_right, in_simple, in_local, in_first, in_statement, in_statements, in_function, Expression, Right, value, malloc, Simple, assign, does_call, Local, First, nothing, declares, does, Statement, Statements, no_statements, statement, Function, Item, structure, global, function, GlobalCells, Named, Scope, is_pointer, Entry, Role, declared as entity_declared, casts, local_entities, first_entities, head_entities, statement_entities, statements_entities, result_of, function_entities, entities_in, with_parameters, in_body, file_scope, Resolution, functions_in, declaration_at, variable_kind, Around, opened, looping, with_names, is_here, behind_first, after, first_locals, locals_in_all, IsItself, IsFound, EachTypeFound, EachNameOnce, OnlyNames, EachNamesItself, EachNamesFound, EachPathFound, MeetsConstraints, NamesFound, meaning_token, IsVariableIn, TypeStands, PathsAt, FirstRead, LocalsStand, AllLocalsStand, around_in, BodyStands, Placing, at, places_in_local, places_in_first, places_in, places_in_all, places_of, places_of_all, IsLeastAssignment, Assignment, written, Slot, with_variable, flat_behind_first, behind_statement, parameters_scope, Context, slot_of, slot_kind, DeclaredStands, IsClosedScope, ExpressionStands, ExpressionsStand, LocalStands, FirstStands, StatementStands, StatementsStand, FunctionStands, FunctionsStand, eqb_same, same_some, none_some, front, back, both, head_there, together, of_each, tail_there, Entity}, Noted.{all_say, parameters_closed}, Scoping.ParametersStand, FileNames.in_file, Places.{right_kind, Here, FileKnown, file_known, found_stands, reads_written, Seen, all_stand, casts_found, PlaceKnown, IsTyped, seen_by}, StaticRegisters.{kind_more, all_still, none_closed, more_closed}}
 use Rattle.sharc_tree.specs.Tree as tree
 use Rattle.sharc_names.specs.Names as meaning
 use Rattle.sharc_ctype.specs.Statements.{declared, in_head, locals_in}
@@ -141,35 +141,38 @@ module _ (m2 : Assignment) (least : IsLeastAssignment m2) (file : FileKnown m2.t
   first_grown slots around names b (declares l) f read own = local_grown slots around names b l f read own.0
   first_grown slots around names b _ f read own = b
 
-  record Given (around : Around) (scope : Scope) (a : Statement) : Type 0 where
-    found : AllByRecursion (IsFound r2) (statement_entities a)
-    places : Known (places_in around scope a)
-    typed : Typed (in_statement a)
-    read : LocalsStand r2 around scope.names a
-    own : Own (locals_in a)
+  -- what is given of a piece: of what has a type in it, of its places and its expressions, of what its locals read, and of these
+  record Facts (entities : List Entity) (placings : List Placing) (list : List Expression) (Read : Type 0) (locals : List Declaration) : Type 0 where
+    found : AllByRecursion (IsFound r2) entities
+    places : Known placings
+    typed : Typed list
+    read : Read
+    own : Own locals
 
-  record AllGiven (around : Around) (scope : Scope) (a : Statements) : Type 0 where
-    found : AllByRecursion (IsFound r2) (statements_entities a)
-    places : Known (places_in_all around scope a)
-    typed : Typed (in_statements a)
-    read : AllLocalsStand r2 around scope.names a
-    own : Own (locals_in_all a)
+  first_part : {Read More : Type 0} (a b : List Entity) (p q : List Placing) (x y : List Expression) (d e : List Declaration) → Facts (a ++ b) (p ++ q) (x ++ y) (Read × More) (d ++ e) → Facts a p x Read d
+  first_part a b p q x y d e g =
+      record { found = front (IsFound r2) a b g.found; places = front (PlaceKnown r2) p q g.places; typed = front (IsTyped r2) x y g.typed; read = g.read.0; own = front (IsItself r2 Named.Variable) d e g.own }
+
+  last_part : {Read More : Type 0} (a b : List Entity) (p q : List Placing) (x y : List Expression) (d e : List Declaration) → Facts (a ++ b) (p ++ q) (x ++ y) (Read × More) (d ++ e) → Facts b q y More e
+  last_part a b p q x y d e g =
+      record { found = back (IsFound r2) a b g.found; places = back (PlaceKnown r2) p q g.places; typed = back (IsTyped r2) x y g.typed; read = g.read.1; own = back (IsItself r2 Named.Variable) d e g.own }
+
+  abbrev Given : Around → Scope → Statement → Type 0
+  Given around scope a = Facts (statement_entities a) (places_in around scope a) (in_statement a) (LocalsStand r2 around scope.names a) (locals_in a)
+
+  abbrev AllGiven : Around → Scope → Statements → Type 0
+  AllGiven around scope a = Facts (statements_entities a) (places_in_all around scope a) (in_statements a) (AllLocalsStand r2 around scope.names a) (locals_in_all a)
 
   -- the expression of a test, and what is given of the statement after it
-  behind_test : (slots : List Slot) (inside : Around) (scope : Scope) → Both (in_scope slots) scope.names → (e : Expression) (a : Statement) → AllByRecursion (IsFound r2) (casts (expressions e) ++ statement_entities a)
-      → Known (at scope (expressions e) ++ places_in inside scope a) → Typed (expressions e ++ in_statement a) → LocalsStand r2 inside scope.names a → Own (locals_in a) → ExpressionsStand (in_scope slots) (expressions e) × Given inside scope a
-  behind_test slots inside scope b e a f k t read own =
+  behind_test : (slots : List Slot) (inside : Around) (scope : Scope) → Both (in_scope slots) scope.names → (e : Expression) (a : Statement)
+      → Facts (casts (expressions e) ++ statement_entities a) (at scope (expressions e) ++ places_in inside scope a) (expressions e ++ in_statement a) (LocalsStand r2 inside scope.names a) (locals_in a)
+      → ExpressionsStand (in_scope slots) (expressions e) × Given inside scope a
+  behind_test slots inside scope b e a g =
       let P = at scope (expressions e) in
       let PA = places_in inside scope a in
       let E = casts (expressions e) in (
-        one slots scope b e (seen slots scope b (expressions e) (front (PlaceKnown r2) P PA k) (front (IsTyped r2) (expressions e) (in_statement a) t) (front (IsFound r2) E (statement_entities a) f)),
-        record {
-          found = back (IsFound r2) E (statement_entities a) f;
-          places = back (PlaceKnown r2) P PA k;
-          typed = back (IsTyped r2) (expressions e) (in_statement a) t;
-          read = read;
-          own = own;
-        },
+        one slots scope b e (seen slots scope b (expressions e) (front (PlaceKnown r2) P PA g.places) (front (IsTyped r2) (expressions e) (in_statement a) g.typed) (front (IsFound r2) E (statement_entities a) g.found)),
+        record { found = back (IsFound r2) E (statement_entities a) g.found; places = back (PlaceKnown r2) P PA g.places; typed = back (IsTyped r2) (expressions e) (in_statement a) g.typed; read = g.read; own = g.own },
       )
 
   after_grown : (slots : List Slot) (around : Around) (scope : Scope) (a : Statement) → Both (in_scope slots) scope.names → Given around scope a → Both (behind_statement (in_scope slots) a) (after around scope.names a)
@@ -178,36 +181,26 @@ module _ (m2 : Assignment) (least : IsLeastAssignment m2) (file : FileKnown m2.t
 
   mutual
     statement_stands : (slots : List Slot) (around : Around) (scope : Scope) (a : Statement) → Both (in_scope slots) scope.names → Given around scope a → StatementStands (in_scope slots) a
-    statement_stands slots around scope (tree.block s all) b g =
-        statements_stand slots (opened around scope.names) scope all b (record { found = g.found; places = g.places; typed = g.typed; read = g.read; own = g.own })
+    statement_stands slots around scope (tree.block s all) b g = statements_stand slots (opened around scope.names) scope all b g
     statement_stands slots around scope (tree.declare s l) b g = local_stands slots around scope b l g.found g.places g.typed g.read g.own.0
     statement_stands slots around scope (tree.simple s x) b g = simples slots scope b x (seen slots scope b (in_simple x) g.places g.typed g.found)
     statement_stands slots around scope (tree.return s e) b g = options slots scope b e (seen slots scope b (in_option expressions e) g.places g.typed g.found)
     statement_stands slots around scope (tree.if_then s e a) b g =
         let inside = opened around scope.names in
-        let w = behind_test slots inside scope b e a g.found g.places g.typed g.read g.own in
+        let w = behind_test slots inside scope b e a g in
         (w.0, statement_stands slots inside scope a b w.1)
     statement_stands slots around scope (tree.if_then_else s e a z) b g =
         let inside = opened around scope.names in
-        let P = at scope (expressions e) in
-        let PA = places_in inside scope a in
-        let PZ = places_in inside scope z in
-        let E = casts (expressions e) in
-        let w = behind_test slots inside scope b e a (front (IsFound r2) (E ++ statement_entities a) (statement_entities z) g.found) (front (PlaceKnown r2) (P ++ PA) PZ g.places)
-        (front (IsTyped r2) (expressions e ++ in_statement a) (in_statement z) g.typed) g.read.0 (front (IsItself r2 Named.Variable) (locals_in a) (locals_in z) g.own) in (
+        let E = casts (expressions e) ++ statement_entities a in
+        let P = at scope (expressions e) ++ places_in inside scope a in
+        let w = behind_test slots inside scope b e a (first_part E (statement_entities z) P (places_in inside scope z) (expressions e ++ in_statement a) (in_statement z) (locals_in a) (locals_in z) g) in (
           w.0,
           statement_stands slots inside scope a b w.1,
-          statement_stands slots inside scope z b (record {
-            found = back (IsFound r2) (E ++ statement_entities a) (statement_entities z) g.found;
-            places = back (PlaceKnown r2) (P ++ PA) PZ g.places;
-            typed = back (IsTyped r2) (expressions e ++ in_statement a) (in_statement z) g.typed;
-            read = g.read.1;
-            own = back (IsItself r2 Named.Variable) (locals_in a) (locals_in z) g.own;
-          }),
+          statement_stands slots inside scope z b (last_part E (statement_entities z) P (places_in inside scope z) (expressions e ++ in_statement a) (in_statement z) (locals_in a) (locals_in z) g),
         )
     statement_stands slots around scope (tree.while s e a) b g =
         let inside = looping (opened around scope.names) in
-        let w = behind_test slots inside scope b e a g.found g.places g.typed g.read g.own in
+        let w = behind_test slots inside scope b e a g in
         (w.0, statement_stands slots inside scope a b w.1)
     statement_stands slots around scope (tree.for s h a) b g =
         let outer = opened around scope.names in
@@ -219,27 +212,19 @@ module _ (m2 : Assignment) (least : IsLeastAssignment m2) (file : FileKnown m2.t
         let PF = places_in_first outer scope h.first in
         let PH = at inner (test ++ step) in
         let PA = places_in inside inner a in
-        let f = front (IsFound r2) (head_entities h) (statement_entities a) g.found in
-        let f1 = front (IsFound r2) (F ++ casts test) (casts step) f in
+        let head = first_part (head_entities h) (statement_entities a) (PF ++ PH) PA (in_first h.first ++ test ++ step) (in_statement a) (first_locals h.first) (locals_in a) g in
+        let body = last_part (head_entities h) (statement_entities a) (PF ++ PH) PA (in_first h.first ++ test ++ step) (in_statement a) (first_locals h.first) (locals_in a) g in
+        let f1 = front (IsFound r2) (F ++ casts test) (casts step) head.found in
         let ff = front (IsFound r2) F (casts test) f1 in
-        let k = front (PlaceKnown r2) (PF ++ PH) PA g.places in
-        let kh : Known (at inner (test ++ step)) = back (PlaceKnown r2) PF PH k in
-        let t = front (IsTyped r2) (in_first h.first ++ test ++ step) (in_statement a) g.typed in
-        let t1 = front (IsTyped r2) (in_first h.first ++ test) step t in
-        let of = front (IsItself r2 Named.Variable) (first_locals h.first) (locals_in a) g.own in
-        let more = first_grown slots outer scope.names b h.first ff g.read.0 of in
+        let kh : Known (at inner (test ++ step)) = back (PlaceKnown r2) PF PH head.places in
+        let t1 = front (IsTyped r2) (in_first h.first ++ test) step head.typed in
+        let more = first_grown slots outer scope.names b h.first ff head.read head.own in
         let c3 = (flat_behind_first (in_scope slots) h.first).scope in
         let more3 : Both (in_scope c3) inner.names = subst (λ z. Both z inner.names) (context_first h.first slots) more in (
-          first_stands slots outer scope b h.first ff (front (PlaceKnown r2) PF PH k) (front (IsTyped r2) (in_first h.first) test t1) g.read.0 of,
+          first_stands slots outer scope b h.first ff (front (PlaceKnown r2) PF PH head.places) (front (IsTyped r2) (in_first h.first) test t1) head.read head.own,
           subst (λ z. ExpressionsStand z test) (sym (context_first h.first slots)) (options c3 inner more3 h.test (seen c3 inner more3 test (known_front inner test step kh) (back (IsTyped r2) (in_first h.first) test t1) (back (IsFound r2) F (casts test) f1))),
-          subst (λ z. ExpressionsStand z step) (sym (context_first h.first slots)) (simple_options c3 inner more3 h.step (seen c3 inner more3 step (known_back inner test step kh) (back (IsTyped r2) (in_first h.first ++ test) step t) (back (IsFound r2) (F ++ casts test) (casts step) f))),
-          subst (λ z. StatementStands z a) (sym (context_first h.first slots)) (statement_stands c3 inside inner a more3 (record {
-            found = back (IsFound r2) (head_entities h) (statement_entities a) g.found;
-            places = back (PlaceKnown r2) (PF ++ PH) PA g.places;
-            typed = back (IsTyped r2) (in_first h.first ++ test ++ step) (in_statement a) g.typed;
-            read = g.read.1;
-            own = back (IsItself r2 Named.Variable) (first_locals h.first) (locals_in a) g.own;
-          })),
+          subst (λ z. ExpressionsStand z step) (sym (context_first h.first slots)) (simple_options c3 inner more3 h.step (seen c3 inner more3 step (known_back inner test step kh) (back (IsTyped r2) (in_first h.first ++ test) step head.typed) (back (IsFound r2) (F ++ casts test) (casts step) head.found))),
+          subst (λ z. StatementStands z a) (sym (context_first h.first slots)) (statement_stands c3 inside inner a more3 body),
         )
     statement_stands slots around scope _ b g = tt
 
@@ -247,24 +232,13 @@ module _ (m2 : Assignment) (least : IsLeastAssignment m2) (file : FileKnown m2.t
     statements_stand slots around scope no_statements b g = tt
     statements_stand slots around scope (statement a rest) b g =
         let inner = with_names scope (after around scope.names a) in
-        let now : Given around scope a = record {
-          found = front (IsFound r2) (statement_entities a) (statements_entities rest) g.found;
-          places = front (PlaceKnown r2) (places_in around scope a) (places_in_all around inner rest) g.places;
-          typed = front (IsTyped r2) (in_statement a) (in_statements rest) g.typed;
-          read = g.read.0;
-          own = front (IsItself r2 Named.Variable) (locals_in a) (locals_in_all rest) g.own;
-        } in
+        let now : Given around scope a =
+        first_part (statement_entities a) (statements_entities rest) (places_in around scope a) (places_in_all around inner rest) (in_statement a) (in_statements rest) (locals_in a) (locals_in_all rest) g in
+        let later : AllGiven around inner rest =
+        last_part (statement_entities a) (statements_entities rest) (places_in around scope a) (places_in_all around inner rest) (in_statement a) (in_statements rest) (locals_in a) (locals_in_all rest) g in
         let c3 = (behind_statement (in_scope slots) a).scope in
-        let more3 : Both (in_scope c3) inner.names = subst (λ z. Both z inner.names) (context_behind a slots) (after_grown slots around scope a b now) in (
-          statement_stands slots around scope a b now,
-          subst (λ z. StatementsStand z rest) (sym (context_behind a slots)) (statements_stand c3 around inner rest more3 (record {
-            found = back (IsFound r2) (statement_entities a) (statements_entities rest) g.found;
-            places = back (PlaceKnown r2) (places_in around scope a) (places_in_all around inner rest) g.places;
-            typed = back (IsTyped r2) (in_statement a) (in_statements rest) g.typed;
-            read = g.read.1;
-            own = back (IsItself r2 Named.Variable) (locals_in a) (locals_in_all rest) g.own;
-          })),
-        )
+        let more3 : Both (in_scope c3) inner.names = subst (λ z. Both z inner.names) (context_behind a slots) (after_grown slots around scope a b now) in
+        (statement_stands slots around scope a b now, subst (λ z. StatementsStand z rest) (sym (context_behind a slots)) (statements_stand c3 around inner rest more3 later))
 
   -- ---- functions
   record Parameters (slots : List Slot) (names : List Entry) : Type 0 where

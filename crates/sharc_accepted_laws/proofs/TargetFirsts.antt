@@ -1,5 +1,5 @@
 -- The first cells of mutexes and of condition variables.
-use Rattle.sharc_accepted_laws.proofs.{Imports.{◌≡◌, ℕ, ◌<◌, Bool, true, false, cond, List, [], ◌∷◌, length, get_or as slice_index_or, refl, ap, sym, ◌∙◌, subst, arith, bytes_eq, Some, None, Contains, codes, Base, StructDefinition, Numbered, entities_in, numbered, structs_in, struct_named, Assignment, FieldMode, TableTarget as Target, Field, no_field, FirstLaws, MutexesFirst, WaitersFirst, known_condition, known_mutex, entity_shapes, shapes_of, own_mode, single, members, struct_fields, head_there, tail_there}, TargetLists.right_there, Numbers.numbers_found}
+use Rattle.sharc_accepted_laws.proofs.{Imports.{◌≡◌, ℕ, ◌<◌, Bool, true, false, cond, List, [], ◌∷◌, length, get_or as slice_index_or, refl, ap, sym, ◌∙◌, subst, arith, bytes_eq, Some, None, Contains, codes, Base, StructDefinition, Numbered, entities_in, numbered, structs_in, struct_named, Assignment, FieldMode, TableTarget as Target, Field, no_field, FirstLaws, MutexesFirst, WaitersFirst, known_condition, known_mutex, entity_shapes, shapes_of, own_mode, single, members, struct_fields, head_there, tail_there, right_there}, Numbers.numbers_found}
 
 -- a struct that the program does not define is a condition variable
 single_fields : (m : Assignment) (q : FieldMode) (list : List StructDefinition) (name : List ℕ) → struct_named list name ≡ None → struct_fields m q list name ≡ single q (Base.Struct name) ∷ []

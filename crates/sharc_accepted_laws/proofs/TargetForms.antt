@@ -32,8 +32,7 @@ form_there zero zero [] k f is = absurd (cc)
 form_there (suc c) zero (x ∷ rest) zero f is = record { inside = omega arith; mode = x; at = refl; form = same_some _ _ is }
 form_there (suc c) zero (x ∷ rest) (suc k) f is =
     let w = form_there c zero rest k f is in
-    let low = w.inside in
-    record { inside = omega (arith, low); mode = w.mode; at = let e : zero + suc k ≡ suc (zero + k) = omega arith in ap (slice_get (x ∷ rest)) e ∙ w.at; form = w.form }
+    record { inside = omega (arith, w.inside); mode = w.mode; at = let e : zero + suc k ≡ suc (zero + k) = omega arith in ap (slice_get (x ∷ rest)) e ∙ w.at; form = w.form }
 form_there count (suc n) (x ∷ rest) k f is =
     let w = form_there count n rest k f is in
     record { inside = w.inside; mode = w.mode; at = let e : suc n + k ≡ suc (n + k) = omega arith in ap (slice_get (x ∷ rest)) e ∙ w.at; form = w.form }
@@ -56,18 +55,16 @@ level_by m first count k f what is = by what is
     plain : slice_get (map form_of (modes_of m (record { first = first; count = count; reading = written }))) k ≡ Some f → (0 + k < count) × IsModeAt m (first + (0 + k)) f
     plain is =
         let w = form_there count first m.modes k f (sym (ap (λ l. slice_get l k) (row_forms m (record { first = first; count = count; reading = written }))) ∙ is) in
-        let low = w.inside in
         let e : first + (0 + k) ≡ first + k = omega arith in
-        (omega (arith, low), record { mode = w.mode; at = ap (slice_get m.modes) e ∙ w.at; form = w.form })
+        (omega (arith, w.inside), record { mode = w.mode; at = ap (slice_get m.modes) e ∙ w.at; form = w.form })
 
     below : (b : Bool) → (count == 0) ≡ b → slice_get (map form_of (modes_of m (cond b (record { first = first; count = count; reading = written }) (record { first = first + 1; count = count - 1; reading = written })))) k ≡ Some f
         → (1 + k < count) × IsModeAt m (first + (1 + k)) f
     below true none is = let p = plain is in let low = p.0 in let z = eqb-true count 0 none in absurd (omega (arith, low, z))
     below false some is =
         let w = form_there (count - 1) (first + 1) m.modes k f (sym (ap (λ l. slice_get l k) (row_forms m (record { first = first + 1; count = count - 1; reading = written }))) ∙ is) in
-        let low = w.inside in
         let e : first + (1 + k) ≡ first + 1 + k = omega arith in
-        (omega (arith, low), record { mode = w.mode; at = ap (slice_get m.modes) e ∙ w.at; form = w.form })
+        (omega (arith, w.inside), record { mode = w.mode; at = ap (slice_get m.modes) e ∙ w.at; form = w.form })
 
     by : (x : Role) → slice_get (map form_of (modes_of m (targets_from x (record { first = first; count = count; reading = written })))) k ≡ Some f → (skipped x + k < count) × IsModeAt m (first + (skipped x + k)) f
     by Role.Global is = below (count == 0) refl is

@@ -1,5 +1,5 @@
 -- The fields of structs are good in each element.
-use Rattle.sharc_accepted_laws.proofs.{Imports.{◌≡◌, ℕ, zero, suc, ◌+◌, ◌-◌, ◌<◌, eqb-true, Bool, true, false, cond, List, [], ◌∷◌, length, map, get_or as slice_index_or, refl, ap, sym, ◌∙◌, subst, arith, Option, Some, None, Contains, false≢true, le-ltb, ltb-true, ltb-false, eq-eqb, AllByRecursion, slice_get, Base, Mode, Path, Declaration, WrittenType, Kind, object, is_pointer, declared_kind, Resolution, named_at, field_place_named, is_mutex_kind, is_behind_pointer, top_of, Assignment, written, declared_row, modes_of, Lock, lock_of, FieldMode, Under, Field, no_field, FieldMode as field, form_of, shape_of, shapes, is_private_mode, starts_private, locked_mode, written_mode, field_mode, base_content, pointer_content, member, members, targets_of, field_lock, same_some, none_some, head_there, some_there, tail_there, below_there}, TargetCells.member_count, Good.{IsOwn, AreGood, private_mode_is, not_pointer, mutex_base, plain_good, pointer_good}, TargetLists.place_there, Table.{IsGood, IsBeside, AreBeside}}
+use Rattle.sharc_accepted_laws.proofs.{Imports.{◌≡◌, ℕ, zero, suc, ◌+◌, ◌-◌, ◌<◌, eqb-true, Bool, true, false, cond, List, [], ◌∷◌, length, map, get_or as slice_index_or, refl, ap, sym, ◌∙◌, subst, arith, Option, Some, None, Contains, false≢true, le-ltb, ltb-true, ltb-false, eq-eqb, AllByRecursion, slice_get, Base, Mode, Path, Declaration, WrittenType, Kind, object, is_pointer, declared_kind, Resolution, named_at, field_place_named, is_mutex_kind, is_behind_pointer, top_of, Assignment, written, declared_row, modes_of, Lock, lock_of, FieldMode, Under, Field, no_field, FieldMode as field, form_of, shape_of, shapes, is_private_mode, starts_private, locked_mode, written_mode, field_mode, base_content, pointer_content, member, members, targets_of, field_lock, same_some, none_some, head_there, some_there, tail_there, below_there, place_there}, TargetCells.member_count, Good.{IsOwn, AreGood, private_mode_is, not_pointer, mutex_base, plain_good, pointer_good}, Table.{IsGood, IsBeside, AreBeside}}
 
 -- ---- kinds
 pub mutex_pointer : (k : Kind) → is_mutex_kind k ≡ true → is_pointer k ≡ false
@@ -159,8 +159,7 @@ members_beside m fields q never all k a p low h =
 
     by_field : (d : Declaration) → slice_get fields k ≡ Some d → IsBehindOf m.typed (0 + k) q (top_of d.written.ctype.levels) a p → IsBeside (members m q 0 fields) k a p
     by_field d at b =
-        let own = b.own in
-        by_partner (subst (IsPartner fields) b.pointer ((all d (place_there fields k d at)).beside b.path b.is b.behind)) (omega (arith, own)) b.shared
+        by_partner (subst (IsPartner fields) b.pointer ((all d (place_there fields k d at)).beside b.path b.is b.behind)) (omega (arith, b.own)) b.shared
 
 pub members_good : (m : Assignment) (fields : List Declaration) (shared : Bool) (q : FieldMode) → IsOwn q shared → (q ≡ field.Racy → ⊥) → ((d : Declaration) → Contains fields d → IsMember m fields d) → AreGood (targets_of m) shared (members m q 0 fields)
 members_good m fields shared q own other all = record { each = members_each m fields shared q own other 0 fields all; beside = members_beside m fields q own.not_behind all }

@@ -1,12 +1,16 @@
 -- A pointer cell of the globals, or of what a pointer refers to, is one of the source.
-use Rattle.sharc_accepted_laws.proofs.{Imports.{◌≡◌, ℕ, zero, suc, ◌+◌, ◌-◌, ◌*◌, ◌<◌, ◌≤◌, ◌⊎◌, inl, inr, Bool, true, false, ◌||◌, cond, List, [], ◌∷◌, ◌++◌, length, replicate, get_or as slice_index_or, Option, Some, None, refl, ap, sym, ◌∙◌, subst, ⊎_elim, arith, bytes_eq, suc-mul, mul_comm, div-add-mod, cases_lt, lt-ltb, mod-mul-add, slice_get, map, ◌%◌, ◌/◌, Base, Declaration, WrittenType, GlobalDefinition, StructDefinition, Kind, object, element_kind, declared_kind, first_place, no_global, elements_of, pointer_cells, structs_in, globals_in, fields_called, is_pointer_in, is_pointer_of_global, Assignment, base_of, written, declared_row, modes_of, cells_in, granules_in, globals_from, globals_of, FieldMode, Field, Pointer, no_field, field_of_cell, global_field, row_of, pointee, IsPointerInTable, PointersAreOfGlobals, GlobalsPoint, PointeesPoint, Form, form_of, stars_in, number, base_content, pointer_content, declared_content, single, members, struct_fields, base_fields, top_mode, global_element, repeated, global_fields, all_global_fields, own_mode, lock_count, type_locks, shape_fields, targets_of, both_ways, map_length, times_low}, TargetCells.member_count, Good.{at_left, at_right}, Laying.{globals_are, global_count, element_count}, Pointees.{IsPointerKind, pointer_kind, many_modes, pointees_fit}, AccessCells.below_product}
+use Rattle.sharc_accepted_laws.proofs.{Imports.{◌≡◌, ℕ, zero, suc, ◌+◌, ◌-◌, ◌*◌, ◌<◌, ◌≤◌, ◌⊎◌, inl, inr, Bool, true, false, ◌||◌, cond, List, [], ◌∷◌, ◌++◌, length, replicate, get_or as slice_index_or, Option, Some, None, refl, ap, sym, ◌∙◌, subst, ⊎_elim, arith, bytes_eq, suc-mul, mul_comm, div-add-mod, cases_lt, lt-ltb, mod-mul-add, slice_get, map, ◌%◌, ◌/◌, Base, Declaration, WrittenType, GlobalDefinition, StructDefinition, Kind, object, element_kind, declared_kind, first_place, no_global, elements_of, pointer_cells, structs_in, globals_in, fields_called, is_pointer_in, is_pointer_of_global, Assignment, base_of, written, declared_row, modes_of, cells_in, granules_in, globals_from, globals_of, FieldMode, Field, Pointer, no_field, field_of_cell, global_field, row_of, pointee, IsPointerInTable, PointersAreOfGlobals, GlobalsPoint, PointeesPoint, Form, form_of, stars_in, number, base_content, pointer_content, declared_content, single, members, struct_fields, base_fields, top_mode, global_element, repeated, global_fields, all_global_fields, own_mode, lock_count, type_locks, shape_fields, targets_of, map_length, times_low}, TargetCells.member_count, Good.{at_left, at_right}, Laying.{globals_are, global_count, element_count}, Pointees.{IsPointerKind, pointer_kind, many_modes, pointees_fit}, AccessCells.below_product}
 use Rattle.sharc_names.specs.Kinds as Kinds
 use Rattle.sharc_code.specs.Ranges.{IsInGlobal}
 use Rattle.sharc_meaning.specs.References as References
 use Rattle.sharc_invariant.specs.Types.{is_pointer}
 
+-- whether the field at a place is a pointer
+abbrev points_at : List Field → ℕ → Bool
+points_at list i = is_pointer (slice_index_or list i no_field).holds
+
 abbrev Points : List Field → ℕ → Type 0
-Points list i = is_pointer (slice_index_or list i no_field).holds ≡ true
+Points list i = points_at list i ≡ true
 
 abbrev Part : List Field → List Field → ℕ → Type 0
 Part a b i = ((i < length a) × Points a i) ⊎ ((k : ℕ) × (i ≡ length a + k) × Points b k)
@@ -20,86 +24,48 @@ parts a b i h = ⊎_elim
     (cases_lt i (length a))
 
 -- ---- elements
-no_base : (b : Base) → is_pointer (base_content b) ≡ true → ⊥
-no_base (Base.Struct name) h = let z : false ≡ true = h in cc
-no_base _ h = let z : false ≡ true = h in cc
+base_same : (b : Base) → is_pointer (base_content b) ≡ false
+base_same (Base.Struct name) = refl
+base_same _ = refl
 
-no_single : (q : FieldMode) (b : Base) (k : ℕ) → Points (single q b ∷ []) k → ⊥
-no_single q Base.Mutex zero h = let z : false ≡ true = h in cc
-no_single q (Base.Struct name) zero h = let z : false ≡ true = h in cc
-no_single q _ zero h = let z : false ≡ true = h in cc
-no_single q b (suc k) h = let z : false ≡ true = h in cc
+single_same : (q : FieldMode) (b : Base) (k : ℕ) → points_at (single q b ∷ []) k ≡ false
+single_same q Base.Mutex zero = refl
+single_same q (Base.Struct name) zero = refl
+single_same q _ zero = refl
+single_same q b (suc k) = refl
 
-declared_pointer : (m : Assignment) (n : ℕ) (d : Declaration) → is_pointer (declared_content m n d) ≡ true → Kinds.is_pointer (declared_kind d.written) ≡ true
-declared_pointer m n d h = by (Kinds.is_pointer (declared_kind d.written)) h
+declared_same : (m : Assignment) (n : ℕ) (d : Declaration) → is_pointer (declared_content m n d) ≡ Kinds.is_pointer (declared_kind d.written)
+declared_same m n d = by (Kinds.is_pointer (declared_kind d.written))
   where
-    by : (b : Bool) → is_pointer (cond b (pointer_content m n d.written.ctype.base (modes_of m (declared_row m.typed written d.name.site.token))) (base_content d.written.ctype.base)) ≡ true → b ≡ true
-    by true h = refl
-    by false h = absurd (no_base d.written.ctype.base h)
+    by : (b : Bool) → is_pointer (cond b (pointer_content m n d.written.ctype.base (modes_of m (declared_row m.typed written d.name.site.token))) (base_content d.written.ctype.base)) ≡ b
+    by true = refl
+    by false = base_same d.written.ctype.base
 
-members_point : (m : Assignment) (q : FieldMode) (n : ℕ) (fields : List Declaration) (k : ℕ) → Points (members m q n fields) k → slice_index_or (pointer_cells fields) k false ≡ true
-members_point m q n [] k h = absurd (let z : false ≡ true = h in cc)
-members_point m q n (d ∷ rest) zero h = declared_pointer m n d h
-members_point m q n (d ∷ rest) (suc k) h = members_point m q (n + 1) rest k h
+members_same : (m : Assignment) (q : FieldMode) (n : ℕ) (fields : List Declaration) (k : ℕ) → points_at (members m q n fields) k ≡ slice_index_or (pointer_cells fields) k false
+members_same m q n [] k = refl
+members_same m q n (d ∷ rest) zero = declared_same m n d
+members_same m q n (d ∷ rest) (suc k) = members_same m q (n + 1) rest k
 
 -- cell k of element e is cell k
 in_element : (c e l k : ℕ) → k < l → c ≡ e * l + k → c % l ≡ k
 in_element c e l k low is = ap (λ n. n % l) is ∙ mod-mul-add e l k low
 
-struct_points : (m : Assignment) (q : FieldMode) (list : List StructDefinition) (name : List ℕ) (c e k : ℕ) → k < length (struct_fields m q list name) → c ≡ e * length (struct_fields m q list name) + k → Points (struct_fields m q list name) k
-    → slice_index_or (pointer_cells (fields_called list name)) (c % length (fields_called list name)) false ≡ true
-struct_points m q [] name c e k low is h = absurd (no_single q (Base.Struct name) k h)
-struct_points m q (s ∷ rest) name c e k low is h = by (bytes_eq s.name.text name) low is h (struct_points m q rest name c e k)
+-- cell c of elements, in the table and in the source
+struct_same : (m : Assignment) (q : FieldMode) (list : List StructDefinition) (name : List ℕ) (c : ℕ)
+    → points_at (struct_fields m q list name) (c % length (struct_fields m q list name)) ≡ slice_index_or (pointer_cells (fields_called list name)) (c % length (fields_called list name)) false
+struct_same m q [] name c = single_same q (Base.Struct name) (c % length (single q (Base.Struct name) ∷ []))
+struct_same m q (s ∷ rest) name c = by (bytes_eq s.name.text name) (struct_same m q rest name c)
   where
-    by : (b : Bool) → k < length (cond b (members m q 0 s.fields) (struct_fields m q rest name)) → c ≡ e * length (cond b (members m q 0 s.fields) (struct_fields m q rest name)) + k → Points (cond b (members m q 0 s.fields) (struct_fields m q rest name)) k
-        → (k < length (struct_fields m q rest name) → c ≡ e * length (struct_fields m q rest name) + k → Points (struct_fields m q rest name) k → slice_index_or (pointer_cells (fields_called rest name)) (c % length (fields_called rest name)) false ≡ true)
-        → slice_index_or (pointer_cells (cond b s.fields (fields_called rest name))) (c % length (cond b s.fields (fields_called rest name))) false ≡ true
-    by true low is h more =
-        let many = member_count m q 0 s.fields in
-        let place : c % length s.fields ≡ k = in_element c e (length s.fields) k (subst (λ l. k < l) many low) (is ∙ ap (λ l. e * l + k) many) in
-        ap (λ j. slice_index_or (pointer_cells s.fields) j false) place ∙ members_point m q 0 s.fields k h
-    by false low is h more = more low is h
+    by : (b : Bool) → points_at (struct_fields m q rest name) (c % length (struct_fields m q rest name)) ≡ slice_index_or (pointer_cells (fields_called rest name)) (c % length (fields_called rest name)) false
+        → points_at (cond b (members m q 0 s.fields) (struct_fields m q rest name)) (c % length (cond b (members m q 0 s.fields) (struct_fields m q rest name)))
+        ≡ slice_index_or (pointer_cells (cond b s.fields (fields_called rest name))) (c % length (cond b s.fields (fields_called rest name))) false
+    by true more = members_same m q 0 s.fields (c % length (members m q 0 s.fields)) ∙ ap (λ n. slice_index_or (pointer_cells s.fields) (c % n) false) (member_count m q 0 s.fields)
+    by false more = more
 
-base_points : (m : Assignment) (q : FieldMode) (b : Base) (c e k : ℕ) → k < length (base_fields m q b) → c ≡ e * length (base_fields m q b) + k → Points (base_fields m q b) k
-    → slice_index_or (pointer_cells (References.base_fields m.typed b)) (c % length (References.base_fields m.typed b)) false ≡ true
-base_points m q (Base.Struct name) c e k low is h = struct_points m q (structs_in m.typed.program.items) name c e k low is h
-base_points m q j c e k low is h = absurd (no_single q j k h)
-
-element_points : (m : Assignment) (g : GlobalDefinition) (c e k : ℕ) → k < length (global_element m g) → c ≡ e * length (global_element m g) + k → Points (global_element m g) k → is_pointer_in m.typed g.declaration.written c ≡ true
-element_points m g c e k low is h = by (Kinds.is_pointer (declared_kind g.declaration.written)) low is h
-  where
-    by : (b : Bool) → k < length (cond b (record { mode = top_mode m g; holds = declared_content m 0 g.declaration } ∷ []) (base_fields m (top_mode m g) g.declaration.written.ctype.base))
-        → c ≡ e * length (cond b (record { mode = top_mode m g; holds = declared_content m 0 g.declaration } ∷ []) (base_fields m (top_mode m g) g.declaration.written.ctype.base)) + k
-        → Points (cond b (record { mode = top_mode m g; holds = declared_content m 0 g.declaration } ∷ []) (base_fields m (top_mode m g) g.declaration.written.ctype.base)) k
-        → (b || slice_index_or (pointer_cells (References.base_fields m.typed g.declaration.written.ctype.base)) (c % length (References.base_fields m.typed g.declaration.written.ctype.base)) false) ≡ true
-    by true low is h = refl
-    by false low is h = base_points m (top_mode m g) g.declaration.written.ctype.base c e k low is h
-
--- ---- and the other way
-members_back : (m : Assignment) (q : FieldMode) (n : ℕ) (fields : List Declaration) (k : ℕ) → slice_index_or (pointer_cells fields) k false ≡ true → Points (members m q n fields) k
-members_back m q n [] k h = absurd (let z : false ≡ true = h in cc)
-members_back m q n (d ∷ rest) zero h =
-    ap (λ b. is_pointer (cond b (pointer_content m n d.written.ctype.base (modes_of m (declared_row m.typed written d.name.site.token))) (base_content d.written.ctype.base))) h
-members_back m q n (d ∷ rest) (suc k) h = members_back m q (n + 1) rest k h
-
-none_back : (i : ℕ) → slice_index_or (pointer_cells []) i false ≡ true → ⊥
-none_back i h = let z : false ≡ true = h in cc
-
-struct_back : (m : Assignment) (q : FieldMode) (list : List StructDefinition) (name : List ℕ) (c : ℕ) → slice_index_or (pointer_cells (fields_called list name)) (c % length (fields_called list name)) false ≡ true
-    → Points (struct_fields m q list name) (c % length (struct_fields m q list name))
-struct_back m q [] name c h = absurd (none_back (c % length (fields_called [] name)) h)
-struct_back m q (s ∷ rest) name c h = by (bytes_eq s.name.text name) h (struct_back m q rest name c)
-  where
-    by : (b : Bool) → slice_index_or (pointer_cells (cond b s.fields (fields_called rest name))) (c % length (cond b s.fields (fields_called rest name))) false ≡ true
-        → (slice_index_or (pointer_cells (fields_called rest name)) (c % length (fields_called rest name)) false ≡ true → Points (struct_fields m q rest name) (c % length (struct_fields m q rest name)))
-        → Points (cond b (members m q 0 s.fields) (struct_fields m q rest name)) (c % length (cond b (members m q 0 s.fields) (struct_fields m q rest name)))
-    by true h more = subst (λ n. Points (members m q 0 s.fields) (c % n)) (sym (member_count m q 0 s.fields)) (members_back m q 0 s.fields (c % length s.fields) h)
-    by false h more = more h
-
-base_back : (m : Assignment) (q : FieldMode) (b : Base) (c : ℕ) → slice_index_or (pointer_cells (References.base_fields m.typed b)) (c % length (References.base_fields m.typed b)) false ≡ true
-    → Points (base_fields m q b) (c % length (base_fields m q b))
-base_back m q (Base.Struct name) c h = struct_back m q (structs_in m.typed.program.items) name c h
-base_back m q _ c h = absurd (none_back (c % 0) h)
+fields_same : (m : Assignment) (q : FieldMode) (b : Base) (c : ℕ)
+    → points_at (base_fields m q b) (c % length (base_fields m q b)) ≡ slice_index_or (pointer_cells (References.base_fields m.typed b)) (c % length (References.base_fields m.typed b)) false
+fields_same m q (Base.Struct name) c = struct_same m q (structs_in m.typed.program.items) name c
+fields_same m q b c = single_same q b (c % length (single q b ∷ []))
 
 alone : (c : ℕ) → c % 1 ≡ 0
 alone c = let low = rest c 1 (λ e. omega (arith, e)) in omega (arith, low)
@@ -107,19 +73,18 @@ alone c = let low = rest c 1 (λ e. omega (arith, e)) in omega (arith, low)
     rest : (a b : ℕ) → (b ≡ 0 → ⊥) → a % b < b
     rest a b ne = grind arith
 
-one_points : (f : Field) (c : ℕ) → is_pointer f.holds ≡ true → Points (f ∷ []) (c % length (f ∷ []))
-one_points f c h = subst (Points (f ∷ [])) (sym (alone c)) h
+one_same : (f : Field) (c : ℕ) → points_at (f ∷ []) (c % length (f ∷ [])) ≡ is_pointer f.holds
+one_same f c = ap (points_at (f ∷ [])) (alone c)
 
-element_back : (m : Assignment) (g : GlobalDefinition) (c : ℕ) → is_pointer_in m.typed g.declaration.written c ≡ true → Points (global_element m g) (c % length (global_element m g))
-element_back m g c h = by (Kinds.is_pointer (declared_kind g.declaration.written)) refl h
+element_same : (m : Assignment) (g : GlobalDefinition) (c : ℕ) → points_at (global_element m g) (c % length (global_element m g)) ≡ is_pointer_in m.typed g.declaration.written c
+element_same m g c = by (Kinds.is_pointer (declared_kind g.declaration.written)) refl
   where
     by : (b : Bool) → Kinds.is_pointer (declared_kind g.declaration.written) ≡ b
-        → (b || slice_index_or (pointer_cells (References.base_fields m.typed g.declaration.written.ctype.base)) (c % length (References.base_fields m.typed g.declaration.written.ctype.base)) false) ≡ true
-        → Points (cond b (record { mode = top_mode m g; holds = declared_content m 0 g.declaration } ∷ []) (base_fields m (top_mode m g) g.declaration.written.ctype.base))
+        → points_at (cond b (record { mode = top_mode m g; holds = declared_content m 0 g.declaration } ∷ []) (base_fields m (top_mode m g) g.declaration.written.ctype.base))
         (c % length (cond b (record { mode = top_mode m g; holds = declared_content m 0 g.declaration } ∷ []) (base_fields m (top_mode m g) g.declaration.written.ctype.base)))
-    by true is h = one_points (record { mode = top_mode m g; holds = declared_content m 0 g.declaration }) c
-        (ap (λ b. is_pointer (cond b (pointer_content m 0 g.declaration.written.ctype.base (modes_of m (declared_row m.typed written g.declaration.name.site.token))) (base_content g.declaration.written.ctype.base))) is)
-    by false is h = base_back m (top_mode m g) g.declaration.written.ctype.base c h
+        ≡ (b || slice_index_or (pointer_cells (References.base_fields m.typed g.declaration.written.ctype.base)) (c % length (References.base_fields m.typed g.declaration.written.ctype.base)) false)
+    by true is = one_same (record { mode = top_mode m g; holds = declared_content m 0 g.declaration }) c ∙ declared_same m 0 g.declaration ∙ is
+    by false is = fields_same m (top_mode m g) g.declaration.written.ctype.base c
 
 -- ---- globals
 record InElement (n : ℕ) (fields : List Field) (i : ℕ) : Type 0 where
@@ -136,11 +101,8 @@ repeated_points (suc n) fields i h = ⊎_elim
     (λ (k : (i < length fields) × Points fields i). record { element = 0; cell = i; low = omega arith; inside = k.0; at = omega arith; points = k.1 })
     (λ (k : (j : ℕ) × (i ≡ length fields + j) × Points (repeated n fields) j).
     let r = repeated_points n fields k.0 k.2 in
-    let low = r.low in
     let product = suc-mul r.element (length fields) in
-    let e = k.1 in
-    let at = r.at in
-    record { element = suc r.element; cell = r.cell; low = omega (arith, low); inside = r.inside; at = omega (arith, product, e, at); points = r.points })
+    record { element = suc r.element; cell = r.cell; low = omega (arith, r.low); inside = r.inside; at = omega (arith, product, k.1, r.at); points = r.points })
     (parts fields (repeated n fields) i h)
 
 no_padding : (n i : ℕ) → Points (replicate n no_field) i → ⊥
@@ -170,10 +132,7 @@ all_points m from (x ∷ rest) i h = ⊎_elim
     (λ (k : (j : ℕ) × (i ≡ length (global_fields m x) + j) × Points (all_global_fields m rest) j).
     let r = all_points m (from + granules_in m.typed x) rest k.0 k.2 in
     let here = global_count m x in
-    let e = k.1 in
-    let known = r.known in
-    let at = r.at in
-    record { number = suc r.number; definition = r.definition; is = r.is; known = omega (arith, known); cell = r.cell; at = omega (arith, here, e, at); cells = r.cells; element = r.element })
+    record { number = suc r.number; definition = r.definition; is = r.is; known = omega (arith, r.known); cell = r.cell; at = omega (arith, here, k.1, r.at); cells = r.cells; element = r.element })
     (parts (global_fields m x) (all_global_fields m rest) i h)
 
 pub pointers_are_of_globals : PointersAreOfGlobals
@@ -183,17 +142,16 @@ pointers_are_of_globals m j h =
     let el = r.element in
     let there = globals_are m r.number g r.is el.element el.cell el.low el.inside in
     let below = below_product el.element (elements_of g.form) (length (global_element m g)) el.cell el.low el.inside in
-    let at = r.at in
-    let place = el.at in
     let cells : (slice_index_or (globals_of m.typed) r.number no_global).cells ≡ elements_of g.form * length (global_element m g) = r.cells ∙ ap (λ n. elements_of g.form * n) (sym there.cells) in
     record {
       global = r.number;
       definition = g;
       is = r.is;
       cell = r.cell;
-      inside = record { known = r.known; low = omega (arith, at); high = omega (arith, at, place, below, cells) };
-      at = omega (arith, at);
-      pointer = ap (λ o. is_pointer_of_global m.typed o r.cell) r.is ∙ element_points m g r.cell el.element el.cell el.inside el.at el.points;
+      inside = record { known = r.known; low = omega (arith, r.at); high = omega (arith, r.at, el.at, below, cells) };
+      at = omega (arith, r.at);
+      pointer = ap (λ o. is_pointer_of_global m.typed o r.cell) r.is ∙ sym (element_same m g r.cell)
+          ∙ ap (points_at (global_element m g)) (in_element r.cell el.element (length (global_element m g)) el.cell el.inside el.at) ∙ el.points;
     }
 
 -- ---- a pointer is a cell
@@ -244,7 +202,7 @@ module _ (m : Assignment) (k : ℕ) (g : GlobalDefinition) (is : slice_get (glob
 
   points_back : (cell : ℕ) → is_pointer_in m.typed g.declaration.written cell ≡ true → IsPointerInTable m k cell
   points_back cell h =
-      let there = element_back m g cell h in
+      let there = element_same m g cell ∙ h in
       let whole = div-add-mod cell size in
       let turned = mul_comm size (cell / size) in
       let at : cell / size * size + cell % size ≡ cell = omega (arith, whole, turned) in
@@ -269,30 +227,19 @@ globals_point m k cell h = by (slice_get (globals_in m.typed.program.items) k) r
     by (Some g) is h = points_back m k g is cell h
 
 -- ---- what a pointer refers to
--- cell i of elements of these fields, of which so many are one element's
-shape_points : (m : Assignment) (w : WrittenType) (b : Base) (stars : ℕ) (forms : List Form) → object b stars ≡ declared_kind w → length forms ≡ suc stars → (i : ℕ) → Points (shape_fields m b forms) (i % length (shape_fields m b forms)) → is_pointer_in m.typed w i ≡ true
-shape_points m w b stars [] same many i h = absurd (omega (arith, many))
-shape_points m w b zero (f ∷ []) same many i h =
-    let fields = base_fields m (own_mode f) b in
-    let whole = div-add-mod i (length fields) in
-    let turned : length fields * (i / length fields) ≡ i / length fields * length fields = mul_comm (length fields) (i / length fields) in
-    let p = base_points m (own_mode f) b i (i / length fields) (i % length fields) (points_inside fields (i % length fields) h) (omega (arith, whole, turned)) h in
-    subst (λ (k : Kind). (Kinds.is_pointer k || slice_index_or (pointer_cells (References.base_fields m.typed (base_of k))) (i % length (References.base_fields m.typed (base_of k))) false) ≡ true) same p
-shape_points m w b (suc stars) (f ∷ []) same many i h = absurd (omega (arith, many))
-shape_points m w b zero (f ∷ g ∷ below) same many i h = absurd (omega (arith, many))
-shape_points m w b (suc stars) (f ∷ g ∷ below) same many i h =
+-- cell i of elements of these fields
+shape_same : (m : Assignment) (w : WrittenType) (b : Base) (stars : ℕ) (forms : List Form) → object b stars ≡ declared_kind w → length forms ≡ suc stars
+    → (i : ℕ) → points_at (shape_fields m b forms) (i % length (shape_fields m b forms)) ≡ is_pointer_in m.typed w i
+shape_same m w b stars [] same many i = absurd (omega (arith, many))
+shape_same m w b zero (f ∷ []) same many i =
+    subst (λ (k : Kind). points_at (base_fields m (own_mode f) b) (i % length (base_fields m (own_mode f) b))
+    ≡ (Kinds.is_pointer k || slice_index_or (pointer_cells (References.base_fields m.typed (base_of k))) (i % length (References.base_fields m.typed (base_of k))) false)) same (fields_same m (own_mode f) b i)
+shape_same m w b (suc stars) (f ∷ []) same many i = absurd (omega (arith, many))
+shape_same m w b zero (f ∷ g ∷ below) same many i = absurd (omega (arith, many))
+shape_same m w b (suc stars) (f ∷ g ∷ below) same many i =
     let pointer : Kinds.is_pointer (object b (suc stars)) ≡ true = lt-ltb 0 (suc stars) (omega arith) in
-    ap (λ (p : Bool). p || slice_index_or (pointer_cells (References.base_fields m.typed w.ctype.base)) (i % length (References.base_fields m.typed w.ctype.base)) false) (sym (ap Kinds.is_pointer same) ∙ pointer)
-
--- and the other way
-shape_back : (m : Assignment) (w : WrittenType) (b : Base) (stars : ℕ) (forms : List Form) → object b stars ≡ declared_kind w → length forms ≡ suc stars → (i : ℕ) → is_pointer_in m.typed w i ≡ true → Points (shape_fields m b forms) (i % length (shape_fields m b forms))
-shape_back m w b stars [] same many i h = absurd (omega (arith, many))
-shape_back m w b zero (f ∷ []) same many i h =
-    base_back m (own_mode f) b i (subst (λ (k : Kind). (Kinds.is_pointer k || slice_index_or (pointer_cells (References.base_fields m.typed (base_of k))) (i % length (References.base_fields m.typed (base_of k))) false) ≡ true) (sym same) h)
-shape_back m w b (suc stars) (f ∷ []) same many i h = absurd (omega (arith, many))
-shape_back m w b zero (f ∷ g ∷ below) same many i h = absurd (omega (arith, many))
-shape_back m w b (suc stars) (f ∷ g ∷ below) same many i h =
-    one_points (record { mode = own_mode f; holds = Pointer (record { target = number m (record { base = b; forms = g ∷ below }); locks = type_locks (lock_count f) (g ∷ below) }) }) i refl
+    one_same (record { mode = own_mode f; holds = Pointer (record { target = number m (record { base = b; forms = g ∷ below }); locks = type_locks (lock_count f) (g ∷ below) }) }) i
+    ∙ ap (λ (p : Bool). p || slice_index_or (pointer_cells (References.base_fields m.typed w.ctype.base)) (i % length (References.base_fields m.typed w.ctype.base)) false) (sym pointer ∙ ap Kinds.is_pointer same)
 
 pub pointees_point : PointeesPoint
 pointees_point m k row is pointer w same i = by (pointer_kind k pointer)
@@ -305,6 +252,4 @@ pointees_point m k row is pointer w same i = by (pointer_kind k pointer)
         let kind : object p.base p.below ≡ declared_kind w = sym (ap element_kind p.is ∙ ap (object p.base) less) ∙ same in
         let many : length forms ≡ suc p.below = map_length form_of (modes_of m row) ∙ many_modes m k row is ∙ ap stars_in p.is in
         let fields : (row_of (targets_of m) (pointee m k row)).fields ≡ shape_fields m p.base forms = fits.fields ∙ ap (λ z. shape_fields m (base_of z) forms) p.is in
-        both_ways (is_pointer (field_of_cell (targets_of m) (pointee m k row) i).holds) (is_pointer_in m.typed w i)
-        (λ h. shape_points m w p.base p.below forms kind many i (subst (λ list. Points list (i % length list)) fields h))
-        (λ h. subst (λ list. Points list (i % length list)) (sym fields) (shape_back m w p.base p.below forms kind many i h))
+        ap (λ list. points_at list (i % length list)) fields ∙ shape_same m w p.base p.below forms kind many i

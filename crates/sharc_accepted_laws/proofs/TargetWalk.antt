@@ -1,5 +1,5 @@
 -- What a function declares and casts to is found by its tokens.
-use Rattle.sharc_accepted_laws.proofs.{Imports.{◌≡◌, ⊎_elim, ℕ, ◌==◌, eqb-true, Bool, true, false, cond, List, [], ◌∷◌, ◌++◌, map, refl, sym, subst, Option, Some, None, Contains, AllByRecursion, Declaration, expressions, in_arguments, in_option, in_right, in_simple, in_local, in_first, in_head, in_statement, in_statements, in_function, Expression, Arguments, no_arguments, argument, Right, value, malloc, Simple, assign, does_call, First, nothing, declares, does, Head, Statement, Statements, no_statements, statement, Function, Item, structure, global, function, Role, Entity, declared, casts, first_entities, head_entities, statement_entities, statements_entities, result_of, function_entities, entities_in, Resolution, functions_in, declarations_of, declarations_in, declared_at, declaration_at, first_locals, locals_in_all, IsFound, EachTypeFound, IsOwn, IsCastFound, HasOwn, OwnAreFound, same_some, none_some, front, back, both, head_there, head_or_tail, of_each, to_each, tail_there, none_there}, TargetForms.skipped, TargetLists.{left_there, right_there, either_there, each_mapped}}
+use Rattle.sharc_accepted_laws.proofs.{Imports.{◌≡◌, ⊎_elim, ℕ, ◌==◌, eqb-true, Bool, true, false, cond, List, [], ◌∷◌, ◌++◌, map, refl, sym, subst, Option, Some, None, Contains, AllByRecursion, Declaration, expressions, in_arguments, in_option, in_right, in_simple, in_local, in_first, in_head, in_statement, in_statements, in_function, Expression, Arguments, no_arguments, argument, Right, value, malloc, Simple, assign, does_call, First, nothing, declares, does, Head, Statement, Statements, no_statements, statement, Function, Item, structure, global, function, Role, Entity, declared, casts, first_entities, head_entities, statement_entities, statements_entities, result_of, function_entities, entities_in, Resolution, functions_in, declarations_of, declarations_in, declared_at, declaration_at, first_locals, locals_in_all, IsFound, EachTypeFound, IsOwn, IsCastFound, HasOwn, OwnAreFound, same_some, none_some, front, back, both, head_there, head_or_tail, of_each, to_each, tail_there, none_there, left_there, right_there, either_there}, TargetForms.skipped, TargetLists.each_mapped}
 use Rattle.sharc_tree.specs.Tree as tree
 use Rattle.sharc_ctype.specs.Statements.{locals_in}
 

@@ -1,5 +1,5 @@
 -- The tokens of the names in the expressions of a function are among the tokens of the function.
-use Rattle.sharc_accepted_laws.proofs.Imports.{◌≡◌, ℕ, List, [], ◌∷◌, ◌++◌, refl, ap, sym, subst, Option, Some, None, Contains, Contains-append_left, Contains-append_right, AllByRecursion, Mark, a_name, type_marks, name_marks, declaration_marks, declarations_marks, marks, arguments_marks, option_marks, right_marks, simple_marks, local_marks, first_marks, head_marks, statement_marks, statements_marks, expressions, in_arguments, in_option, in_right, in_simple, in_local, in_first, in_head, in_statement, in_statements, in_function, Expression, Arguments, no_arguments, argument, Right, value, malloc, Simple, assign, does_call, Local, First, nothing, declares, does, Head, Statement, Statements, no_statements, statement, Function, name_tokens, tokens_of, both, head_there}
+use Rattle.sharc_accepted_laws.proofs.Imports.{◌≡◌, ℕ, List, [], ◌∷◌, ◌++◌, refl, ap, sym, subst, Option, Some, None, Contains, left_there, right_there, AllByRecursion, Mark, a_name, type_marks, name_marks, declaration_marks, declarations_marks, marks, arguments_marks, option_marks, right_marks, simple_marks, local_marks, first_marks, head_marks, statement_marks, statements_marks, expressions, in_arguments, in_option, in_right, in_simple, in_local, in_first, in_head, in_statement, in_statements, in_function, Expression, Arguments, no_arguments, argument, Right, value, malloc, Simple, assign, does_call, Local, First, nothing, declares, does, Head, Statement, Statements, no_statements, statement, Function, name_tokens, tokens_of, both, head_there}
 use Rattle.sharc_tree.specs.Marks.{a_cast}
 use Rattle.sharc_tree.specs.Tree as tree
 
@@ -14,10 +14,10 @@ module _ (all : List ℕ) where
   Within list = (t : ℕ) → Contains (name_tokens list) t → Contains all t
 
   fore : (a b : List Mark) → Within (a ++ b) → Within a
-  fore a b h t has = h t (subst (λ list. Contains list t) (sym (split a b)) (Contains-append_left (name_tokens a) (name_tokens b) t has))
+  fore a b h t has = h t (subst (λ list. Contains list t) (sym (split a b)) (left_there (name_tokens a) (name_tokens b) t has))
 
   aft : (a b : List Mark) → Within (a ++ b) → Within b
-  aft a b h t has = h t (subst (λ list. Contains list t) (sym (split a b)) (Contains-append_right (name_tokens a) (name_tokens b) t has))
+  aft a b h t has = h t (subst (λ list. Contains list t) (sym (split a b)) (right_there (name_tokens a) (name_tokens b) t has))
 
   abbrev pub Named : Expression → Type 0
   Named (tree.identifier s i) = Contains all i.site.token

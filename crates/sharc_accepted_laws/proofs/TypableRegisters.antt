@@ -49,9 +49,8 @@ integer_found i r (z ∷ rest) x h = by (z.token == x) refl z.is_pointer refl h 
         }
     by false other false integer h one two =
         let f = two h in
-        let low = f.low in
         let next : i + 1 + f.at ≡ i + suc f.at = omega arith in
-        let more : suc f.at < int_count rest + 1 = omega (arith, low) in
+        let more : suc f.at < int_count rest + 1 = omega (arith, f.low) in
         record {
           at = suc f.at;
           low = subst (λ n. suc f.at < n) (sym (ap (λ p. cond p (int_count rest) (int_count rest + 1)) integer)) more;

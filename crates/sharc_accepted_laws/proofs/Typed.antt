@@ -1,5 +1,5 @@
 -- The cells of lvalues are typed, by the laws of their accesses.
-use Rattle.sharc_accepted_laws.proofs.{Imports.{◌≡◌, ℕ, ◌<◌, ◌==◌, ◌&&◌, Bool, true, false, cond, refl, ap, sym, ◌∙◌, subst, arith, Option, Some, None, Contains, false≢true, ltb-true, ne_eqb, AllByRecursion, Base, expressions, in_function, Span, Identifier, Dot, Arrow, Dereference, Expression, identifier, parentheses, index, field, unary, Function, Named, Kind, object, mutex, is_integer, is_pointer, is_array, is_struct_behind, Code, Resolution, named_at, functions_in, is_reference, cell_at, is_constant_named, constant_use, IsExpression, kind_of, target_of, lvalue_in, in_global, global_of, target, Context, slot_kind, is_cell, NameSuits, Either, Suits, PlaceSuits, Signature, Typing, Setting, ground_of, entry_of, pointer_of, IsCellLvalue, IsCodeOf, BaseStands, IsFairUse, setting, IsTypingOf, IsGroundOf, IntegersFit, ReferencesFit, MutexesFit, GroundsFit, PathsLead, IsOf, CellTyped, LvalueTyped, BasesStand, LvaluesAreTyped, AreFair, UsesAreFair, same_some, none_some, and_false, each}, TargetLists.{place_there as there_at}, Members.{first_of as self}}
+use Rattle.sharc_accepted_laws.proofs.{Imports.{◌≡◌, ℕ, ◌<◌, ◌==◌, ◌&&◌, Bool, true, false, cond, refl, ap, sym, ◌∙◌, subst, arith, Option, Some, None, Contains, false≢true, ltb-true, ne_eqb, AllByRecursion, Base, expressions, in_function, Span, Identifier, Dot, Arrow, Dereference, Expression, identifier, parentheses, index, field, unary, Function, Named, Kind, object, mutex, is_integer, is_pointer, is_array, is_struct_behind, Code, Resolution, named_at, functions_in, is_reference, cell_at, is_constant_named, constant_use, IsExpression, kind_of, target_of, lvalue_in, in_global, global_of, target, Context, slot_kind, is_cell, NameSuits, Either, Suits, PlaceSuits, Signature, Typing, Setting, ground_of, entry_of, pointer_of, IsCellLvalue, IsCodeOf, BaseStands, IsFairUse, setting, IsTypingOf, IsGroundOf, IntegersFit, ReferencesFit, MutexesFit, GroundsFit, PathsLead, IsOf, CellTyped, LvalueTyped, BasesStand, LvaluesAreTyped, AreFair, UsesAreFair, same_some, none_some, and_false, each, place_there as there_at}, Members.first_of as self}
 use Rattle.sharc_names.specs.Kinds as kinds
 
 -- ---- what is an integer, a pointer or a mutex is no struct and no array

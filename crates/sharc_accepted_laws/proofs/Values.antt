@@ -1,5 +1,5 @@
 -- Values, pointers, variables, constants and operators.
-use Rattle.sharc_accepted_laws.proofs.{Imports.{◌≡◌, inl, inr, ℕ, zero, suc, ◌+◌, ◌<◌, ◌==◌, eqb-true, ◌||◌, Bool, true, false, cond, List, refl, ap, sym, ◌∙◌, subst, arith, option_map, Option, Some, None, false≢true, and_parts, or_right, or_left, AllByRecursion, Base, Site, Span, Identifier, BinaryOperator, LogicalOr, LogicalAnd, Equal, NotEqual, Less, Greater, LessOrEqual, GreaterOrEqual, ShiftLeft, ShiftRight, Constant, UnaryOperator, Negate, Not, Complement, Dereference, NumberType, in_function, Expression, Named, Kind, object, array, null, is_integral, is_integer, is_pointer, is_null, is_long, int, long, promoted, Int, holds, Shift, Arithmetic, number_kind, constant_kind, class_of, binary_result, Resolution, named_at, named_kind, declaration_at, variable_kind, functions_in, kind_at, constant_value, is_reference, is_shift, is_comparison, StaticType, Refers, Narrower, a_constant, in_parentheses, element_of_pointer, element_of_array, pointed_to, HasType as IsOfType, MeetsConstraints, Assignment, Targets, written, deeper, behind, declared_row, named_row, row_at, modes_of, modes_at, Sharing, IsExpression, kind_of, is_ref, operator_of, base_as_width, width_of, Context, slot_kind, ref_count, register_of, number_in, IsScalar, Either, SameSort, OperandsSuit, IfThere, IsWide, no_type, Setting, type_by, GoesTo, IsTypeIn, IsNumber, IsPointer, VariableTyped, ConstantTyped, UnaryTyped, IntegersTyped, ComparedTyped, BinaryTyped, HeldLaws, IsAccepted, ScopeLaws, AllStand, register, static_of, variable_type, variable_entry, entry_by, entry_of, IsAt, OperandSuits, ValueLaws, width_named, typing, of_each}, TypableRegisters.{reference_found, integer_found}, Members.first_of, Forms.{integer_no_reference as integer_is}, Calls.narrower_same, Conditions.{object_no_null as no_object}, Given.no_array}
+use Rattle.sharc_accepted_laws.proofs.{Imports.{◌≡◌, inl, inr, ℕ, zero, suc, ◌+◌, ◌<◌, ◌==◌, eqb-true, ◌||◌, Bool, true, false, cond, List, refl, ap, sym, ◌∙◌, subst, arith, option_map, Option, Some, None, false≢true, and_parts, or_right, or_left, AllByRecursion, Base, Site, Span, Identifier, BinaryOperator, LogicalOr, LogicalAnd, Equal, NotEqual, Less, Greater, LessOrEqual, GreaterOrEqual, ShiftLeft, ShiftRight, Constant, UnaryOperator, Negate, Not, Complement, Dereference, NumberType, in_function, Expression, Named, Kind, object, array, null, is_integral, is_integer, is_pointer, is_null, is_long, int, long, promoted, Int, holds, Shift, Arithmetic, number_kind, constant_kind, class_of, binary_result, Resolution, named_at, named_kind, declaration_at, variable_kind, functions_in, kind_at, constant_value, is_reference, is_shift, is_comparison, StaticType, Refers, Narrower, a_constant, in_parentheses, element_of_pointer, element_of_array, pointed_to, HasType as IsOfType, MeetsConstraints, Assignment, Targets, written, deeper, behind, declared_row, named_row, row_at, modes_of, modes_at, Sharing, IsExpression, kind_of, is_ref, operator_of, base_as_width, width_of, Context, slot_kind, ref_count, register_of, number_in, IsScalar, Either, SameSort, OperandsSuit, IfThere, IsWide, no_type, Setting, type_by, GoesTo, IsTypeIn, IsNumber, IsPointer, VariableTyped, ConstantTyped, UnaryTyped, IntegersTyped, ComparedTyped, BinaryTyped, HeldLaws, IsAccepted, ScopeLaws, AllStand, register, static_of, variable_type, variable_entry, entry_by, entry_of, IsAt, OperandSuits, ValueLaws, width_named, typing, of_each}, TypableRegisters.{reference_found, integer_found}, Members.first_of, Forms.{integer_no_reference as integer_is}, Calls.narrower_same, Given.no_object, Given.no_array}
 use Rattle.sharc_tree.specs.Tree as tree
 
 number_of_long : (b : Bool) → (is_reference (cond b long int) ≡ false) × (is_integer (cond b long int) ≡ true)

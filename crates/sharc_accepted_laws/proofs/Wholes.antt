@@ -1,5 +1,5 @@
 -- An lvalue that names a variable is the name of one: what has fields is a cell.
-use Rattle.sharc_accepted_laws.proofs.{Imports.{◌≡◌, ⊎_elim, ℕ, Bool, true, false, List, [], ◌∷◌, ◌++◌, map, refl, ap, sym, ◌∙◌, subst, Option, Some, None, if◌then◌else◌, Contains, ◌&&◌, ◌||◌, false≢true, AllByRecursion, Mutex, NumberType, Span, Declaration, Identifier, Constant, is_lvalue, without_parentheses, expressions, in_function, Expression, identifier, Function, Named, Kind, is_array, is_struct_base, same_base, declared_kind, constant_kind, number_kind, Resolution, functions_in, function_at, declaration_at, kind_at, named_at, is_aggregate, locals_in_all, HasType, Callee, of_program, of_conditions, Common, both_shorter, a_variable, a_global, a_function, a_constant, in_parentheses, element_of_pointer, element_of_array, a_call, a_field, a_field_behind, negated, complemented, pointed_to, arithmetic, shifted, a_cast, IsItself, NamesOwn, EachNamesItself, EachNamesOwn, ArePlain, IsPlain, MeetsConstraints, Target, in_global_at, in_object_at, target, named_target, own_field, is_cell, IsAccepted, Assignment, same_some, and_false, no, some_star, head_or_tail, of_each}, TargetLists.place_there}
+use Rattle.sharc_accepted_laws.proofs.Imports.{◌≡◌, ⊎_elim, ℕ, Bool, true, false, List, [], ◌∷◌, ◌++◌, map, refl, ap, sym, ◌∙◌, subst, Option, Some, None, if◌then◌else◌, Contains, ◌&&◌, ◌||◌, false≢true, AllByRecursion, Mutex, NumberType, Span, Declaration, Identifier, Constant, is_lvalue, without_parentheses, expressions, in_function, Expression, identifier, Function, Named, Kind, is_array, is_struct_base, same_base, declared_kind, constant_kind, number_kind, Resolution, functions_in, function_at, declaration_at, kind_at, named_at, is_aggregate, locals_in_all, HasType, Callee, of_program, of_conditions, Common, both_shorter, a_variable, a_global, a_function, a_constant, in_parentheses, element_of_pointer, element_of_array, a_call, a_field, a_field_behind, negated, complemented, pointed_to, arithmetic, shifted, a_cast, IsItself, NamesOwn, EachNamesItself, EachNamesOwn, ArePlain, IsPlain, MeetsConstraints, Target, in_global_at, in_object_at, target, named_target, own_field, is_cell, IsAccepted, Assignment, same_some, and_false, no, some_star, head_or_tail, of_each, place_there}
 use Rattle.sharc_names.specs.Kinds as kinds
 use Rattle.sharc_ctype_laws.specs.Constraints.{IsPointer}
 use Rattle.sharc_flat.specs.Places.{variable}

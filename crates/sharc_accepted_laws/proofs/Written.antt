@@ -80,10 +80,8 @@ module _ (Good : Mode → Type 0) (private_good : Good Private) (racy_good : Goo
   positions_good : (m : Assignment) → IsLeastAssignment m → (n : Numbered) → IsPositioned (entities_in m.typed.program.items) 0 n → AllByRecursion LevelGood (settled_modes n.entity)
       → (k : ℕ) → k < positions_of n.entity → n.first + k < length m.modes → Good (slice_index_or m.modes (n.first + k) Private)
   positions_good m least n w good k low inside =
-      let first = w.first in
-      let z : n.first + k ≡ w.skip + k = omega (arith, first) in
-      let size = least.modes in
-      subst Good (sym (least.mode (n.first + k) (omega (arith, inside, size))))
+      let z : n.first + k ≡ w.skip + k = omega (arith, w.first) in
+      subst Good (sym (least.mode (n.first + k) (omega (arith, inside, least.modes))))
       (found_good (settled_at m.typed (n.first + k)) (finding_at least.findings (n.first + k))
       (subst LevelGood (sym (ap (λ p. slice_index_or (settled_in (entities_in m.typed.program.items)) p (Some Private)) z ∙ w.levels k low))
       (one_good (settled_modes n.entity) k good)))
