@@ -1,5 +1,5 @@
 -- What is in a function makes what its mallocs make: the list of what is assigned and initialised has them all, and other values make nothing.
-use Rattle.sharc_meaning_tests.proofs.Imports.{◌≡◌, ℕ, Bool, true, false, ◌||◌, ◌&&◌, List, [], ◌∷◌, ◌++◌, Option, Some, None, refl, ap, sym, subst, ◌∙◌, filter_map-append, list_any-append, ◌==◌, filter_map, flat_map, if◌then◌else◌, list_any, Object, Made, SourceEvent, Declaration, WrittenType, Expression, identifier, constant, parentheses, call, spawn, on_value, on_place, cast, index, field, unary, binary, Arguments, no_arguments, argument, Right, value, malloc, Simple, assign, does_call, Local, First, nothing, declares, does, Head, Statement, empty, block, declare, simple, jump, return, if_then, if_then_else, while, for, Statements, no_statements, statement, Item, structure, global, function, Resolution, named_at, functions_in, Receiver, lvalue, variable, result, Transfer, gives, parameters_named, passed, transfers, argument_transfers, in_option, right_transfers, simple_transfers, local_transfers, first_transfers, statement_transfers, statements_transfers, function_transfers, latest, makes as makes_object, is_pointer_in, is_pointer_of, is_pointer_of_made, made_at, right_makes, simple_makes, initial_makes, first_makes, step_makes, head_makes, statement_makes, statements_make, item_makes, items_make}
+use Rattle.sharc_meaning_tests.proofs.Imports.{◌≡◌, ℕ, Bool, true, false, ◌||◌, ◌&&◌, List, [], ◌∷◌, ◌++◌, Option, Some, None, refl, ap, sym, subst, ◌∙◌, filter_map-append, list_any-append, ◌==◌, filter_map, flat_map, if◌then◌else◌, list_any, Object, Made, SourceEvent, Declaration, WrittenType, Expression, parentheses, call, spawn, on_value, on_place, cast, index, field, unary, binary, Arguments, no_arguments, argument, Right, value, malloc, Simple, assign, does_call, Local, First, nothing, declares, does, Head, Statement, empty, block, declare, simple, jump, return, if_then, if_then_else, while, for, Statements, no_statements, statement, Item, structure, global, function, Resolution, named_at, functions_in, Receiver, lvalue, variable, result, Transfer, gives, parameters_named, passed, transfers, argument_transfers, in_option, right_transfers, simple_transfers, local_transfers, first_transfers, statement_transfers, statements_transfers, function_transfers, latest, makes as makes_object, is_pointer_in, is_pointer_of, is_pointer_of_made, made_at, right_makes, simple_makes, initial_makes, first_makes, step_makes, head_makes, statement_makes, statements_make, item_makes, items_make}
 
 module _ (r : Resolution) (token cell : ℕ) where
   abbrev makes : List Transfer → Bool
