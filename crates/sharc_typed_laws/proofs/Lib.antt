@@ -55,3 +55,4 @@ pub mod Variables
 pub mod Waiting
 pub mod Weaker
 pub mod Whole
+pub mod Words
