@@ -1,5 +1,5 @@
 -- What an lvalue names is read, written and taken: after its base and its index are at hand.
-use Rattle.sharc_typed_laws.proofs.{Imports.{◌≡◌, ℕ, ◌+◌, ◌<◌, ◌≤◌, Bool, true, false, cond, List, [], ◌∷◌, ◌++◌, Option, Some, None, refl, sym, ◌∙◌, subst, ⊎_elim, arith, false≢true, cases_lt, Site, Use, Cell, Width, put, put_same, put_other, Sharing, Op, Spot, Lvalue, Context, int_count, ref_count, Target, variable, in_global, in_global_at, in_object, in_object_at, has_base, base_width, guard_width, index_width, cell_of, guard_cell, guard_field, guard_code, cell_value_code, cell_store_code, cell_take_code, is_cell, StaticType, Entry, Empty, Refers, Element, Number, Within, OfElement, Gate, Closed, Loaded, Label, LessNumber, HasBase, IsScoped, set_number, fill, ints_in, refs_in, less_refl, less_number_refl, Mark, Setting, IsAtHand, IsNamed, mark, Typing, HoldsVariables, IsPointerCopy, Ground, HasNumbers, number_in_global, HasIndex, HasBaseAt, IsPlaced, ReachesInteger, ReachesReference, ThroughGuard, IntegerTyped, ReferenceTyped}, Fitting.fits_same, Parts.{P, At, at_number, at_fill, then_do, pre, none, pop_at, with_number}, Values.{over, guard_at, load_at, load_reference_at, take_at, store_at, store_reference_at}, Variables.settle_base_at, Words.words}
+use Rattle.sharc_typed_laws.proofs.{Imports.{◌≡◌, ℕ, ◌+◌, ◌<◌, ◌≤◌, Bool, true, false, cond, List, [], ◌∷◌, ◌++◌, Option, Some, None, refl, sym, ◌∙◌, subst, ⊎_elim, arith, false≢true, cases_lt, Site, Use, Cell, Width, put, put_same, put_other, Sharing, Op, Spot, Lvalue, Context, int_count, ref_count, Target, variable, in_global, in_global_at, in_object, in_object_at, has_base, base_width, guard_width, index_width, cell_of, guard_cell, guard_field, guard_code, cell_value_code, cell_store_code, cell_take_code, is_cell, StaticType, Entry, Empty, Refers, Element, Number, Within, OfElement, Gate, Closed, Loaded, Label, LessNumber, HasBase, IsScoped, set_number, fill, ints_in, refs_in, less_refl, less_number_refl, Mark, Setting, IsAtHand, IsNamed, mark, Typing, HoldsVariables, IsPointerCopy, Ground, HasNumbers, number_in_global, HasIndex, HasBaseAt, IsPlaced, ReachesInteger, ReachesReference, ThroughGuard, IntegerTyped, ReferenceTyped}, Fitting.fits_same, Parts.{at_number, at_fill, pre, none, pop_at, with_number}, Values.{over, guard_at, load_at, load_reference_at, take_at, store_at, store_reference_at}, Variables.settle_base_at, Words.words}
 
 module _ (around : Setting) (f : ℕ) (D : (ℕ → Mark) → Type 0) (y : Typing) (c : Context) (low : (p : ℕ) → y.named c p ≡ true → p < ref_count c.scope) (from : ℕ) where
   open words around f D (y.named c) (ref_count c.scope) low from use {named, top, Q, Here, joins}

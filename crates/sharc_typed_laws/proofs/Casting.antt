@@ -1,5 +1,5 @@
 -- What was taken away is given a type, or freed, unless it is NULL.
-use Rattle.sharc_typed_laws.proofs.{Imports.{◌≡◌, ◌≢◌, ℕ, ◌+◌, ◌<◌, ◌≤◌, ◌⊎◌, Bool, true, false, cond, [], ◌∷◌, refl, sym, ap, ◌∙◌, subst, inl, inr, ⊎_elim, arith, false≢true, cases_eq, cases_lt, nat_eq, put, put_same, put_other, put_all, Op, Spot, Context, ref_count, StaticType, Mentions, cells_of, Empty, Refers, Closed, Label, Less, LessNumber, LessEntry, LessGate, EntryMentions, IsScoped, IsFree, fill, empty, knows, without_copies, without_index, Recasts, IsLayout, moved_copy, refs_in, less_entry_refl, less_number_refl, scoped_fill, IsNumberOf, Mark, Setting, Fits, IsNamed, mark, Typing, eq_refl}, Fitting.fits_by, Standing.{less_by, less_emptied, without_same, uncopied, scoped_frame, unnamed}, Losing.{with_copies, loses_taken, stands_lost}, Moves.{on_take_local, on_free, on_give}, Parts.{P, does, same_number}, Accessed.Frame, Words.words}
+use Rattle.sharc_typed_laws.proofs.{Imports.{◌≡◌, ◌≢◌, ℕ, ◌+◌, ◌<◌, ◌≤◌, ◌⊎◌, Bool, true, false, cond, [], ◌∷◌, refl, sym, ap, ◌∙◌, subst, inl, inr, ⊎_elim, arith, false≢true, cases_eq, cases_lt, nat_eq, put, put_same, put_other, put_all, Op, Spot, Context, ref_count, StaticType, Mentions, cells_of, Empty, Refers, Closed, Label, Less, LessNumber, LessEntry, LessGate, EntryMentions, IsScoped, IsFree, fill, empty, knows, without_copies, without_index, Recasts, IsLayout, moved_copy, refs_in, less_entry_refl, less_number_refl, scoped_fill, IsNumberOf, Mark, Setting, Fits, IsNamed, mark, Typing, eq_refl}, Fitting.fits_by, Standing.{less_by, less_emptied, without_same, uncopied, scoped_frame, unnamed}, Losing.{with_copies, loses_taken, stands_lost}, Moves.{on_take_local, on_free, on_give}, Parts.{does, same_number}, Accessed.Frame, Words.words}
 use Rattle.sharc_typed_laws.proofs.Flow as flow
 
 module _ (around : Setting) (f : ℕ) (D : (ℕ → Mark) → Type 0) (y : Typing) (c : Context) (low : (p : ℕ) → y.named c p ≡ true → p < ref_count c.scope) (from : ℕ) where

@@ -1,5 +1,5 @@
 -- Indexes: the number of a cell of an element, and beside it that of the mutex of the same element.
-use Rattle.sharc_typed_laws.proofs.{Imports.{◌≡◌, ◌≢◌, ℕ, zero, suc, ◌+◌, ◌*◌, ◌^◌, ◌<◌, ◌≤◌, Bool, true, false, cond, List, [], ◌∷◌, Option, Some, None, refl, sym, ap, ◌∙◌, subst, ⊎_elim, arith, pos, negsuc, max, false≢true, cases_eq, cases_lt, same_Some, nat_eq, nat_lt, put, put_same, put_other, put_all, Op, OpWrites, Know, know_next, writes_ref, writes_int, number_given, with_element, Targets, Empty, Element, Named, Nth, Number, Anything, Exactly, Within, Indexes, OfElement, OfGlobal, Closed, Pass, Label, Less, LessNumber, HasBase, HasName, IsNameOf, Fresh, IsScoped, set_number, IsElement, ints_in, refs_in, less_entry_refl, less_number_refl, with_passes, IsNumberOf, Mark, Setting, Tells, Fits, IsLine, IsPlain, mark, none_some}, Standing.{less_by, scoped_frame, stands_number}, Telling.{told, other_than, same_as}, Rules.{Plain, on_move, on_move_named}, Parts.{P, does, before, At, at_number, same_number, number_op, with_number}, Words.words}
+use Rattle.sharc_typed_laws.proofs.{Imports.{◌≡◌, ◌≢◌, ℕ, zero, suc, ◌+◌, ◌*◌, ◌^◌, ◌<◌, ◌≤◌, Bool, true, false, cond, List, [], ◌∷◌, Option, Some, None, refl, sym, ap, ◌∙◌, subst, ⊎_elim, arith, pos, negsuc, max, false≢true, cases_eq, cases_lt, same_Some, nat_eq, nat_lt, put, put_same, put_other, put_all, Op, OpWrites, Know, know_next, writes_ref, writes_int, number_given, with_element, Targets, Empty, Element, Named, Nth, Number, Anything, Exactly, Within, Indexes, OfElement, OfGlobal, Closed, Pass, Label, Less, LessNumber, HasBase, HasName, IsNameOf, Fresh, IsScoped, set_number, IsElement, ints_in, refs_in, less_entry_refl, less_number_refl, with_passes, IsNumberOf, Mark, Setting, Tells, Fits, IsLine, IsPlain, mark, none_some}, Standing.{less_by, scoped_frame, stands_number}, Telling.{told, other_than, same_as}, Rules.{Plain, on_move, on_move_named}, Parts.{does, before, at_number, same_number, number_op, with_number}, Words.words}
 
 -- ---- a name that no number has
 name_after : Element → ℕ

@@ -1,5 +1,5 @@
 -- The code of lvalues: the base of what is named, and the index of its cell, come to their registers.
-use Rattle.sharc_typed_laws.proofs.{Imports.{◌≡◌, ℕ, ◌+◌, ◌*◌, ◌<◌, ◌≤◌, true, Option, Some, None, refl, sym, ap, ◌∙◌, subst, arith, put_other, Op, Spot, OpWrites, Context, ref_count, guard_width, bounds_code, StaticType, cells_of, Empty, Refers, Element, Number, OfElement, OfGlobal, Closed, Label, Fresh, set_number, ints_in, refs_in, Mark, Setting, IsPlain, mark, Typing}, Rules.{on_bounds, on_global_bounds}, Parts.{P, At, with_number}, Indexes.{FindsElement, element_of, fresh_name, is_fresh, bound_at, beside_at}, Accessed.indexed, Words.words}
+use Rattle.sharc_typed_laws.proofs.{Imports.{◌≡◌, ℕ, ◌+◌, ◌*◌, ◌<◌, ◌≤◌, true, Option, Some, None, refl, sym, ap, ◌∙◌, subst, arith, put_other, Op, Spot, OpWrites, Context, ref_count, guard_width, bounds_code, StaticType, cells_of, Empty, Refers, Element, Number, OfElement, OfGlobal, Closed, Label, Fresh, set_number, ints_in, refs_in, Mark, Setting, IsPlain, mark, Typing}, Rules.{on_bounds, on_global_bounds}, Parts.{with_number}, Indexes.{FindsElement, element_of, fresh_name, is_fresh, bound_at, beside_at}, Accessed.indexed, Words.words}
 
 module _ (around : Setting) (f : ℕ) (D : (ℕ → Mark) → Type 0) (y : Typing) (c : Context) (low : (p : ℕ) → y.named c p ≡ true → p < ref_count c.scope) (from : ℕ) where
   open words around f D (y.named c) (ref_count c.scope) low from use {named, top, Q, Here}

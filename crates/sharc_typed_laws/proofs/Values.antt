@@ -1,5 +1,5 @@
 -- What is accessed, with the base and the index of its cell at hand: loads, stores and takes.
-use Rattle.sharc_typed_laws.proofs.{Imports.{◌≡◌, ℕ, ◌+◌, ◌<◌, ◌≤◌, Bool, true, false, [], ◌∷◌, refl, sym, ap, ◌∙◌, subst, inl, ⊎_elim, arith, false≢true, cases_eq, cases_lt, Cell, Width, put, put_same, put_other, put_all, Op, Spot, StaticType, Field, FieldType, Mentions, Readonly, Integer, Pointer, Empty, Refers, Number, Anything, Within, Gate, Closed, Loaded, Label, Less, LessNumber, LessEntry, LessGate, EntryMentions, IsScoped, set_number, fill, empty, without_copies, without_index, IsVacant, PointsTo, HasCell, FitsWidth, ints_in, refs_in, less_refl, less_entry_refl, less_number_refl, scoped_fill, IsNumberOf, Mark, Setting, IsAtHand, IsNamed, MayReach, mark, none_some}, Standing.{less_by, without_same, uncopied, scoped_frame, unnamed, stands_number}, Telling.{told, other_than}, Accesses.{InFrame, on_load, on_store, on_load_reference, on_take_cell, on_store_reference, on_load_guard}, Parts.{P, does, At, same_number, told_same, told_number, with_number}, Words.words}
+use Rattle.sharc_typed_laws.proofs.{Imports.{◌≡◌, ℕ, ◌+◌, ◌<◌, ◌≤◌, Bool, true, false, [], ◌∷◌, refl, sym, ap, ◌∙◌, subst, inl, ⊎_elim, arith, false≢true, cases_eq, cases_lt, Cell, Width, put, put_same, put_other, put_all, Op, Spot, StaticType, Field, FieldType, Mentions, Readonly, Integer, Pointer, Empty, Refers, Number, Anything, Within, Gate, Closed, Loaded, Label, Less, LessNumber, LessEntry, LessGate, EntryMentions, IsScoped, set_number, fill, empty, without_copies, without_index, IsVacant, PointsTo, HasCell, FitsWidth, ints_in, refs_in, less_refl, less_entry_refl, less_number_refl, scoped_fill, IsNumberOf, Mark, Setting, IsAtHand, IsNamed, MayReach, mark, none_some}, Standing.{less_by, without_same, uncopied, scoped_frame, unnamed, stands_number}, Telling.{told, other_than}, Accesses.{InFrame, on_load, on_store, on_load_reference, on_take_cell, on_store_reference, on_load_guard}, Parts.{same_number, told_same, told_number, with_number}, Words.words}
 
 -- the integer registers hold this, and this stands directly before
 abbrev pub over : Label → (ℕ → Number) → Gate → Label
