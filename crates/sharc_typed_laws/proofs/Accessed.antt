@@ -1,24 +1,11 @@
 -- What an lvalue names is read, written and taken: after its base and its index are at hand.
-use Rattle.sharc_typed_laws.proofs.{Imports.{◌≡◌, ℕ, ◌+◌, ◌<◌, ◌≤◌, Bool, true, false, cond, List, [], ◌∷◌, ◌++◌, Option, Some, None, refl, sym, ◌∙◌, subst, ⊎_elim, arith, false≢true, cases_lt, Site, Use, Cell, Width, put, put_same, put_other, Sharing, Op, Spot, Lvalue, Context, int_count, ref_count, Target, variable, in_global, in_global_at, in_object, in_object_at, has_base, base_width, guard_width, index_width, cell_of, guard_cell, guard_field, guard_code, cell_value_code, cell_store_code, cell_take_code, is_cell, StaticType, Entry, Empty, Refers, Element, Number, Within, OfElement, Gate, Closed, Loaded, Label, LessNumber, HasBase, IsScoped, set_number, fill, ints_in, refs_in, less_refl, less_number_refl, Mark, Setting, IsAtHand, IsNamed, mark, Typing, HoldsVariables, IsPointerCopy, Ground, HasNumbers, number_in_global, HasIndex, HasBaseAt, IsPlaced, ReachesInteger, ReachesReference, ThroughGuard, IntegerTyped, ReferenceTyped}, Fitting.fits_same, Parts.{P, At, at_number, at_fill, then_do, pre, none, pop_at, with_number}, Values.{over, guard_at, load_at, load_reference_at, take_at, store_at, store_reference_at}, Variables.settle_base_at}
+use Rattle.sharc_typed_laws.proofs.{Imports.{◌≡◌, ℕ, ◌+◌, ◌<◌, ◌≤◌, Bool, true, false, cond, List, [], ◌∷◌, ◌++◌, Option, Some, None, refl, sym, ◌∙◌, subst, ⊎_elim, arith, false≢true, cases_lt, Site, Use, Cell, Width, put, put_same, put_other, Sharing, Op, Spot, Lvalue, Context, int_count, ref_count, Target, variable, in_global, in_global_at, in_object, in_object_at, has_base, base_width, guard_width, index_width, cell_of, guard_cell, guard_field, guard_code, cell_value_code, cell_store_code, cell_take_code, is_cell, StaticType, Entry, Empty, Refers, Element, Number, Within, OfElement, Gate, Closed, Loaded, Label, LessNumber, HasBase, IsScoped, set_number, fill, ints_in, refs_in, less_refl, less_number_refl, Mark, Setting, IsAtHand, IsNamed, mark, Typing, HoldsVariables, IsPointerCopy, Ground, HasNumbers, number_in_global, HasIndex, HasBaseAt, IsPlaced, ReachesInteger, ReachesReference, ThroughGuard, IntegerTyped, ReferenceTyped}, Fitting.fits_same, Parts.{at_number, at_fill, pre, none, pop_at, with_number}, Values.{over, guard_at, load_at, load_reference_at, take_at, store_at, store_reference_at}, Variables.settle_base_at, Words.words}
 
 module _ (around : Setting) (f : ℕ) (D : (ℕ → Mark) → Type 0) (y : Typing) (c : Context) (low : (p : ℕ) → y.named c p ≡ true → p < ref_count c.scope) (from : ℕ) where
-  abbrev named : ℕ → Bool
-  named = y.named c
-
-  abbrev top : ℕ
-  top = ref_count c.scope
-
-  abbrev pub Q : Mark → List Op → Mark → Type 0
-  Q = P around f D named top low from
-
-  abbrev pub Here : ℕ → ℕ → Label → Type 0
-  Here = At around f D named top low from
+  open words around f D (y.named c) (ref_count c.scope) low from use {named, top, Q, Here, joins}
 
   abbrev pub with_int : Label → ℕ → Number → Mark
   with_int = with_number around f D named top low from
-
-  joins : (s m e : Mark) (xs ys : List Op) → Q s xs m → Q m ys e → Q s (xs ++ ys) e
-  joins = then_do around f D named top low from
 
   -- the pointer to the mutex is read first, where there is one
   guarded : (i r : ℕ) (l : Label) → Here i r l → (g : ℕ → Number) → ((j : ℕ) → j < i → g j ≡ l.ints j) → (until ir rr : ℕ) (site : Site) (lvalue : Lvalue) (t : Target) (guard : Option ℕ) (Holds : Label → Type 0) (os : List Op) (e : Mark)

@@ -1,15 +1,8 @@
 -- A call, after what is passed to it.
-use Rattle.sharc_typed_laws.proofs.{Imports.{◌≡◌, ℕ, ◌+◌, ◌<◌, ◌≤◌, Bool, true, false, cond, ◌&&◌, List, [], ◌∷◌, length, Some, refl, sym, ap, ◌∙◌, subst, inl, ⊎_elim, arith, false≢true, cases_eq, cases_lt, nat_tests, nat_eq, nat_lt, put_same, put_other, put_all, Op, Spot, Context, ref_count, StaticType, Entry, Empty, Refers, Number, Anything, Indexes, OfElement, OfGlobal, Closed, Label, Less, LessNumber, LessEntry, LessGate, EntryMentions, HasBase, IsScoped, fill, set_number, Passes, ints_in, refs_in, below, below_copy, below_number, called_label, less_entry_refl, less_number_refl, scoped_fill, Mark, Setting, IsNamed, IsPlain, mark, Typing}, Standing.{less_by, scoped_frame, stands_number}, Handing.{CallFits, on_call}, Parts.{P, does, with_number}, Accessed.Frame}
+use Rattle.sharc_typed_laws.proofs.{Imports.{◌≡◌, ℕ, ◌+◌, ◌<◌, ◌≤◌, true, false, cond, ◌&&◌, [], ◌∷◌, length, Some, refl, sym, ap, ◌∙◌, subst, inl, ⊎_elim, arith, false≢true, cases_eq, cases_lt, nat_tests, nat_eq, nat_lt, put_same, put_other, put_all, Op, Spot, Context, ref_count, StaticType, Entry, Empty, Refers, Number, Anything, Indexes, OfElement, OfGlobal, Closed, Label, Less, LessNumber, LessEntry, LessGate, EntryMentions, HasBase, IsScoped, fill, set_number, Passes, ints_in, refs_in, below, below_copy, below_number, called_label, less_entry_refl, less_number_refl, scoped_fill, Mark, Setting, IsNamed, IsPlain, mark, Typing}, Standing.{less_by, scoped_frame, stands_number}, Handing.{CallFits, on_call}, Parts.{does, with_number}, Accessed.Frame, Words.words}
 
 module _ (around : Setting) (f : ℕ) (D : (ℕ → Mark) → Type 0) (y : Typing) (c : Context) (low : (p : ℕ) → y.named c p ≡ true → p < ref_count c.scope) (from : ℕ) where
-  abbrev N : ℕ → Bool
-  N = y.named c
-
-  abbrev top : ℕ
-  top = ref_count c.scope
-
-  abbrev Q : Mark → List Op → Mark → Type 0
-  Q = P around f D N top low from
+  open words around f D (y.named c) (ref_count c.scope) low from use {named as N, top, Q}
 
   -- ---- below the registers of the call, at them and above
   at_below : {A : Type 0} (k : ℕ) (g : ℕ → A) (a b : A) (q : ℕ) → q < k → below k g a b q ≡ g q

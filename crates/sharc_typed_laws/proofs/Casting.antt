@@ -1,22 +1,9 @@
 -- What was taken away is given a type, or freed, unless it is NULL.
-use Rattle.sharc_typed_laws.proofs.{Imports.{◌≡◌, ◌≢◌, ℕ, ◌+◌, ◌<◌, ◌≤◌, ◌⊎◌, Bool, true, false, cond, List, [], ◌∷◌, Some, refl, sym, ap, ◌∙◌, subst, inl, inr, ⊎_elim, arith, false≢true, cases_eq, cases_lt, nat_eq, put, put_same, put_other, put_all, Op, Spot, Context, ref_count, StaticType, Mentions, cells_of, Empty, Refers, Closed, Label, Less, LessNumber, LessEntry, LessGate, EntryMentions, IsScoped, IsFree, fill, empty, knows, without_copies, without_index, Recasts, IsLayout, moved_copy, ints_in, refs_in, less_entry_refl, less_number_refl, scoped_fill, IsNumberOf, Mark, Setting, Fits, IsNamed, mark, Typing, eq_refl}, Fitting.{fits_same, fits_by, fits_through}, Standing.{less_by, less_emptied, without_same, uncopied, scoped_frame, unnamed}, Losing.{with_copies, loses_taken, stands_lost}, Moves.{on_take_local, on_free, on_give}, Parts.{P, does, same_number}, Accessed.Frame, Marked.marked}
+use Rattle.sharc_typed_laws.proofs.{Imports.{◌≡◌, ◌≢◌, ℕ, ◌+◌, ◌<◌, ◌≤◌, ◌⊎◌, Bool, true, false, cond, [], ◌∷◌, refl, sym, ap, ◌∙◌, subst, inl, inr, ⊎_elim, arith, false≢true, cases_eq, cases_lt, nat_eq, put, put_same, put_other, put_all, Op, Spot, Context, ref_count, StaticType, Mentions, cells_of, Empty, Refers, Closed, Label, Less, LessNumber, LessEntry, LessGate, EntryMentions, IsScoped, IsFree, fill, empty, knows, without_copies, without_index, Recasts, IsLayout, moved_copy, refs_in, less_entry_refl, less_number_refl, scoped_fill, IsNumberOf, Mark, Setting, Fits, IsNamed, mark, Typing, eq_refl}, Fitting.{fits_same, fits_by, fits_through}, Standing.{less_by, less_emptied, without_same, uncopied, scoped_frame, unnamed}, Losing.{with_copies, loses_taken, stands_lost}, Moves.{on_take_local, on_free, on_give}, Parts.{does, same_number}, Accessed.Frame, Marked.marked, Words.words}
 use Rattle.sharc_flat_lemmas.proofs.Flow as flow
 
 module _ (around : Setting) (f : ℕ) (D : (ℕ → Mark) → Type 0) (y : Typing) (c : Context) (low : (p : ℕ) → y.named c p ≡ true → p < ref_count c.scope) (from : ℕ) where
-  abbrev N : ℕ → Bool
-  N = y.named c
-
-  abbrev top : ℕ
-  top = ref_count c.scope
-
-  abbrev Q : Mark → List Op → Mark → Type 0
-  Q = P around f D N top low from
-
-  abbrev fi : ℕ
-  fi = ints_in around.code (Some f)
-
-  abbrev refs : ℕ
-  refs = refs_in around.code (Some f)
+  open words around f D (y.named c) (ref_count c.scope) low from use {named as N, top, Q, fi, fr as refs}
 
   -- ---- a variable's reference is taken away, and what was a copy of it is none any more
   pub take_variable_at : (i r : ℕ) (l : Label) → Frame around f D y c low from i r l → (s : StaticType) → IsNamed N r s → (x until : ℕ) (spot : Spot) → x < top → l.env x ≡ Refers s → N x ≡ false

@@ -1,5 +1,5 @@
 -- The code of an expression is typed, by what the types of the source say of it.
-use Rattle.sharc_typed_laws.proofs.{Imports.{◌≡◌, ℕ, ◌+◌, ◌<◌, ◌≤◌, ◌⊎◌, Bool, true, false, cond, List, [], ◌∷◌, ◌++◌, Option, Some, None, refl, sym, ap, ◌∙◌, subst, inl, inr, ⊎_elim, arith, append_assoc, drop, codes, bytes_eq, false≢true, cases_eq, cases_lt, Site, Span, Identifier, WrittenType, Dot, Arrow, BinaryOperator, LogicalOr, LogicalAnd, Constant, Unlock, Free, Negate, Not, Dereference, Join, Print, span_of, Expression, identifier, constant, parentheses, call, spawn, on_value, on_place, cast, index, field, unary, binary, Arguments, no_arguments, argument, Name as Named, Kind, is_array, is_integer, element_kind, promoted, declared_kinds, Use, Register, Width, Char, put, put_same, put_other, put_all, global_at, structs_in, parameters_named, Sharing, element_cells, field_place_named, global_elements, number_named, constant_value, is_reference, Op, Spot, first_cell, Lvalue, Context, ref_count, register_of, number_in, at_site, Target, variable, in_global, in_global_at, in_object, in_object_at, target, named_target, own_field, global_of, guard_width, copy_code, cell_value_code, cell_take_code, take_code, value_code, index_code, pointee_code, bounds_code, width_of, kind_of, is_ref, target_of, mode_of, what_names, lvalue_in, guard_of, constant_code, named_code, truth_code, compare_code, logical_code, either_code, behind_int, behind_ref, operator_of, first_cell_of, wait_code, with_words, argument_words, condition_code, called_code, passed_code, spawn_code, cast_code, layout_of, expression_code, arguments_code, place_code, Either, is_cell, StaticType, cells_of, MutexWord, Waiters, Entry, Empty, Refers, Element, Number, Anything, Nth, Exactly, Within, Indexes, OfElement, OfGlobal, Closed, Label, Less as LessLabel, LessNumber, LessEntry, LessGate, HasBase, fill, set_number, without_copies, Passes, ints_in, refs_in, wider, less_refl, less_entry_refl, less_number_refl, scoped_fill, Mark, Setting, Way, AreOpen, IsNamed, IsPlain, AreLow, no_type, mark, Typing, IsCopyIn, IsCopyNamed, IsCopyOf, IsPointerCopy, Ground, ReferenceTyped, IsBare, StandsIn, type_by, GoesTo, Widens, ints_behind, refs_behind, AreFree, IsTypeIn, IsVoid, IsNumber, IsPointer, ground_of, CellTyped, VariableTyped, NameTyped, ConstantTyped, UnaryTyped, result_of, ComparedTyped, HasType, AreFields, IndexTypable, ArgumentAt, ArgumentsAt, ResultTyped, CallTyped, HasNoWidth, Goes, Handed, SpawnTyped, FirstCell, IsOne, AreTwo, ConditionTyped, VariableTakes, Takes, TakeTyped, CastTyped, FreeTyped, CallTypable, IsTypable, AreTypable, IsPlaceTypable, none_some}, Fitting.fits_same, Losing.{with_copies, Loses, loses_none, loses_both, loses_taken, stands_lost, less_lost, holds_lost, below, loses_below, loses_there, small_there, lost_fill, copy_kept}, Standing.less_by, Telling.{told, other_than}, Rules.on_nothing, Parts.{P, at_number, at_fill, number_above, does, then_do, none, enter, constant_at, width_at, from_free, false_at, compute_at, negate_at, complement_at, number_dropped, truth_at, compare_at, logical_at, either_at, check_at, pointee_at, print_at, join_at, with_number}, Variables.{local_at, move_at}, Indexes.{element_of, fresh_name}, Accessed.{Frame, placed, indexed, int_value, reference_value, taken_value, holds_over, wider_names}, Casting.{take_variable_at, freed_at, given_at}, Calling.{call_reference, call_number, call_nothing}, Spawning.{spawn_number, spawn_reference}, Waiting.{signalled, broadcasted, waited}, Locking.{locked_at, unlocked_at}, LabelsPlacing.{AreFew, which, bounds_at, finds_object, finds_global}, Preorder.{narrower_before as narrower_through}}
+use Rattle.sharc_typed_laws.proofs.{Imports.{◌≡◌, ℕ, ◌+◌, ◌<◌, ◌≤◌, ◌⊎◌, Bool, true, false, cond, List, [], ◌∷◌, ◌++◌, Option, Some, None, refl, sym, ap, ◌∙◌, subst, inl, inr, ⊎_elim, arith, append_assoc, drop, codes, bytes_eq, false≢true, cases_eq, cases_lt, Site, Span, Identifier, WrittenType, Dot, Arrow, BinaryOperator, LogicalOr, LogicalAnd, Constant, Unlock, Free, Negate, Not, Dereference, Join, Print, span_of, Expression, identifier, constant, parentheses, call, spawn, on_value, on_place, cast, index, field, unary, binary, Arguments, no_arguments, argument, Name as Named, Kind, is_array, is_integer, element_kind, promoted, declared_kinds, Use, Register, Width, Char, put, put_same, put_other, put_all, global_at, structs_in, parameters_named, Sharing, element_cells, field_place_named, global_elements, number_named, constant_value, is_reference, Op, Spot, first_cell, Lvalue, Context, ref_count, register_of, number_in, at_site, Target, variable, in_global, in_global_at, in_object, in_object_at, target, named_target, own_field, global_of, guard_width, copy_code, cell_value_code, cell_take_code, take_code, value_code, index_code, pointee_code, bounds_code, width_of, kind_of, is_ref, target_of, mode_of, what_names, lvalue_in, guard_of, constant_code, named_code, truth_code, compare_code, logical_code, either_code, behind_int, behind_ref, operator_of, wait_code, with_words, argument_words, condition_code, called_code, passed_code, spawn_code, cast_code, layout_of, expression_code, arguments_code, place_code, Either, is_cell, StaticType, cells_of, MutexWord, Waiters, Entry, Empty, Refers, Element, Number, Anything, Nth, Exactly, Within, Indexes, OfElement, OfGlobal, Closed, Label, Less as LessLabel, LessNumber, LessEntry, LessGate, HasBase, fill, set_number, without_copies, Passes, ints_in, refs_in, wider, less_refl, less_entry_refl, less_number_refl, scoped_fill, Mark, Setting, Way, AreOpen, IsNamed, IsPlain, AreLow, no_type, mark, Typing, IsCopyIn, IsCopyNamed, IsCopyOf, IsPointerCopy, Ground, ReferenceTyped, IsBare, StandsIn, type_by, GoesTo, Widens, ints_behind, refs_behind, AreFree, IsTypeIn, IsVoid, IsNumber, IsPointer, ground_of, CellTyped, VariableTyped, NameTyped, ConstantTyped, UnaryTyped, result_of, ComparedTyped, HasType, AreFields, IndexTypable, ArgumentAt, ArgumentsAt, ResultTyped, CallTyped, HasNoWidth, Goes, Handed, SpawnTyped, FirstCell, IsOne, AreTwo, ConditionTyped, VariableTakes, Takes, TakeTyped, CastTyped, FreeTyped, CallTypable, IsTypable, AreTypable, IsPlaceTypable, none_some}, Fitting.fits_same, Losing.{with_copies, Loses, loses_none, loses_both, loses_taken, stands_lost, less_lost, holds_lost, below, loses_below, loses_there, small_there, lost_fill, copy_kept}, Standing.less_by, Telling.{told, other_than}, Rules.on_nothing, Parts.{P, at_number, at_fill, number_above, does, then_do, none, enter, constant_at, width_at, from_free, false_at, compute_at, negate_at, complement_at, number_dropped, truth_at, compare_at, logical_at, either_at, check_at, pointee_at, print_at, join_at, with_number}, Variables.{local_at, move_at}, Indexes.{element_of, fresh_name}, Accessed.{Frame, placed, indexed, int_value, reference_value, taken_value, holds_over, wider_names}, Casting.{take_variable_at, freed_at, given_at}, Calling.{call_reference, call_number, call_nothing}, Spawning.{spawn_number, spawn_reference}, Waiting.{signalled, broadcasted, waited}, Locking.{locked_at, unlocked_at}, LabelsPlacing.{AreFew, which, bounds_at, finds_object, finds_global}, Preorder.{narrower_before as narrower_through}}
 use Rattle.sharc_tree.specs.{declared.tree.expression.PlaceCall.TheVariants.Lock, declared.tree.expression.UnaryOperator.TheVariants.Complement}
 
 pub no_element : (n : Number) (q : ℕ) → IsPlain n → HasBase n q → ⊥
@@ -857,16 +857,23 @@ module _ (around : Setting) (f : ℕ) (ways : List Way) (y : Typing) (c : Contex
             (subst (λ z. Q from middle (ys (behind_int z i) (behind_ref z r) ++ (passed_code (behind_int z i) (drop 1 kinds) site2 ++ [])) end) (sym is) tail));
       }
 
+  -- a wait is for a condition and a mutex, and what wakes threads is for a condition
+  abbrev IsWait : (ℕ → StaticType) → Arguments → Type 0
+  IsWait wants all = AreTwo around f y c all × FirstCell around (wants 0) Waiters × FirstCell around (wants 1) MutexWord
+
+  abbrev IsWaking : (ℕ → StaticType) → Arguments → Type 0
+  IsWaking wants all = IsOne around f y c all × FirstCell around (wants 0) Waiters
+
   -- by which one is called
   condition_value : (from i r : ℕ) (l : Label) → F from i r l → (e : Expression) (name : List ℕ) (wants : ℕ → StaticType) (all : Arguments) (os : List Op) (spot : Spot) → IsVoid around f y c e → ConditionTyped around f y c name wants all → (IsOne around f y c all → OneHeld from i r l wants os) → (AreTwo around f y c all → TwoHeld from i r l wants os)
       → ValueOf from i r l (os ++ condition_code r spot name all) e
-  condition_value from i r l fr e name wants all os spot is h one two = void_by from i r l (os ++ condition_code r spot name all) e is (by (bytes_eq name (codes "wait")) (bytes_eq name (codes "signal")) h)
+  condition_value from i r l fr e name wants all os spot is h one two = void_by from i r l (os ++ condition_code r spot name all) e is
+      (by (bytes_eq name (codes "wait")) (bytes_eq name (codes "signal")) _ _ _ h waits
+      (λ z. woken _ z (let p = one z.0 in signalled around f D y c low from i r (with_copies l p.lost) (lost_frame from i r l fr p.lost p.loses) (wants 0) p.copy p.fits p.small z.1 spot))
+      (λ z. woken _ z (let p = one z.0 in broadcasted around f D y c low from i r (with_copies l p.lost) (lost_frame from i r l fr p.lost p.loses) (wants 0) p.copy p.fits p.small z.1 spot)))
     where
-      by : (w g : Bool) → Either w (AreTwo around f y c all × FirstCell around (wants 0) Waiters × FirstCell around (wants 1) MutexWord) (IsOne around f y c all × FirstCell around (wants 0) Waiters)
-          → Done from i l
-          (os ++ cond w (wait_code r spot (with_words spot (argument_words 0 all)) (with_words spot (argument_words 1 all)))
-          (cond g (Op.ChkNull r spot ∷ Op.CondSignal (first_cell_of r) spot ∷ Op.Pop r ∷ []) (Op.ChkNull r spot ∷ Op.CondBroadcast (first_cell_of r) spot ∷ Op.Pop r ∷ [])))
-      by true g z =
+      waits : IsWait wants all → Done from i l (os ++ wait_code r spot (with_words spot (argument_words 0 all)) (with_words spot (argument_words 1 all)))
+      waits z =
           let p = two z.0 in
           let k = with_copies l p.lost in
           record {
@@ -875,22 +882,20 @@ module _ (around : Setting) (f : ℕ) (ways : List Way) (y : Typing) (c : Contex
             piece = joins from (mark l from i) (mark (fill (fill k r (Refers (wants 0)) p.copy false) (r + 1) (Refers (wants 1)) p.copy2 false) from i) (mark k from i) os _ p.piece
                 (waited around f D y c low from i r k (lost_frame from i r l fr p.lost p.loses) (wants 0) (wants 1) p.copy p.copy2 p.fits p.fits2 p.small p.other z.1 z.2 spot (with_words spot (argument_words 0 all)) (with_words spot (argument_words 1 all)));
           }
-      by false true z =
-          let p = one z.0 in
-          let k = with_copies l p.lost in
-          record {
-            lost = p.lost;
-            loses = p.loses;
-            piece = joins from (mark l from i) (mark (fill k r (Refers (wants 0)) p.copy false) from i) (mark k from i) os _ p.piece (signalled around f D y c low from i r k (lost_frame from i r l fr p.lost p.loses) (wants 0) p.copy p.fits p.small z.1 spot);
-          }
-      by false false z =
-          let p = one z.0 in
-          let k = with_copies l p.lost in
-          record {
-            lost = p.lost;
-            loses = p.loses;
-            piece = joins from (mark l from i) (mark (fill k r (Refers (wants 0)) p.copy false) from i) (mark k from i) os _ p.piece (broadcasted around f D y c low from i r k (lost_frame from i r l fr p.lost p.loses) (wants 0) p.copy p.fits p.small z.1 spot);
-          }
+
+      -- one thread, or all, by this code
+      woken : (ys : List Op) (z : IsWaking wants all) → Q from (mark (fill (with_copies l (one z.0).lost) r (Refers (wants 0)) (one z.0).copy false) from i) ys (mark (with_copies l (one z.0).lost) from i) → Done from i l (os ++ ys)
+      woken ys z q = let p = one z.0 in record {
+        lost = p.lost;
+        loses = p.loses;
+        piece = joins from (mark l from i) (mark (fill (with_copies l p.lost) r (Refers (wants 0)) p.copy false) from i) (mark (with_copies l p.lost) from i) os ys p.piece q;
+      }
+
+      by : (w g : Bool) (xs ys zs : List Op) → Either w (IsWait wants all) (IsWaking wants all) → (IsWait wants all → Done from i l (os ++ xs)) → (IsWaking wants all → Done from i l (os ++ ys)) → (IsWaking wants all → Done from i l (os ++ zs))
+          → Done from i l (os ++ cond w xs (cond g ys zs))
+      by true g xs ys zs h x y z = x h
+      by false true xs ys zs h x y z = y h
+      by false false xs ys zs h x y z = z h
 
   called_value : (from i r : ℕ) (l : Label) → F from i r l → (e : Expression) (n : Named) (name : List ℕ) (all : Arguments) (spot : Spot) → ((copy : ℕ) → IsCopyOf y c e copy)
       → ((kinds : List Kind) (wants : ℕ → StaticType) → AreTypable around f y c kinds wants all → Passed i r l kinds wants all (arguments_code c i r kinds all))

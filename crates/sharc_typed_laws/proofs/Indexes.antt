@@ -1,5 +1,5 @@
 -- Indexes: the number of a cell of an element, and beside it that of the mutex of the same element.
-use Rattle.sharc_typed_laws.proofs.{Imports.{◌≡◌, ◌≢◌, ℕ, zero, suc, ◌+◌, ◌*◌, ◌^◌, ◌<◌, ◌≤◌, Bool, true, false, cond, List, [], ◌∷◌, Option, Some, None, refl, sym, ap, ◌∙◌, subst, ⊎_elim, arith, pos, negsuc, max, false≢true, cases_eq, cases_lt, same_Some, nat_eq, nat_lt, put, put_same, put_other, put_all, Op, OpWrites, Know, know_next, writes_ref, writes_int, number_given, with_element, Targets, Empty, Element, Named, Nth, Number, Anything, Exactly, Within, Indexes, OfElement, OfGlobal, Closed, Pass, Label, Less, LessNumber, HasBase, HasName, IsNameOf, Fresh, IsScoped, set_number, IsElement, ints_in, refs_in, less_entry_refl, less_number_refl, with_passes, IsNumberOf, Mark, Setting, Tells, Fits, IsLine, IsPlain, mark, none_some}, Standing.{less_by, scoped_frame, stands_number}, Telling.{told, other_than, same_as}, Rules.{Plain, on_move, on_move_named}, Parts.{P, does, before, At, at_number, same_number, number_op, with_number}}
+use Rattle.sharc_typed_laws.proofs.{Imports.{◌≡◌, ◌≢◌, ℕ, zero, suc, ◌+◌, ◌*◌, ◌^◌, ◌<◌, ◌≤◌, Bool, true, false, cond, List, [], ◌∷◌, Option, Some, None, refl, sym, ap, ◌∙◌, subst, ⊎_elim, arith, pos, negsuc, max, false≢true, cases_eq, cases_lt, same_Some, nat_eq, nat_lt, put, put_same, put_other, put_all, Op, OpWrites, Know, know_next, writes_ref, writes_int, number_given, with_element, Targets, Empty, Element, Named, Nth, Number, Anything, Exactly, Within, Indexes, OfElement, OfGlobal, Closed, Pass, Label, Less, LessNumber, HasBase, HasName, IsNameOf, Fresh, IsScoped, set_number, IsElement, ints_in, refs_in, less_entry_refl, less_number_refl, with_passes, IsNumberOf, Mark, Setting, Tells, Fits, IsLine, IsPlain, mark, none_some}, Standing.{less_by, scoped_frame, stands_number}, Telling.{told, other_than, same_as}, Rules.{Plain, on_move, on_move_named}, Parts.{does, before, at_number, same_number, number_op, with_number}, Words.words}
 
 -- ---- a name that no number has
 name_after : Element → ℕ
@@ -117,17 +117,7 @@ pub record FindsElement (around : Setting) (f : ℕ) (l : Label) (o : ℕ → �
       → ((k : Know) → Tells around.targets k (mark (record l { ints = g; gate = Closed }) from until) → Tells around.targets (know_next (o i n) k) e) → IsLine around f table pc (mark (record l { ints = g; gate = Closed }) from until) (o i n)
 
 module _ (around : Setting) (f : ℕ) (D : (ℕ → Mark) → Type 0) (named : ℕ → Bool) (top : ℕ) (low : (p : ℕ) → named p ≡ true → p < top) (from : ℕ) where
-  abbrev fi : ℕ
-  fi = ints_in around.code (Some f)
-
-  abbrev fr : ℕ
-  fr = refs_in around.code (Some f)
-
-  abbrev Q : Mark → List Op → Mark → Type 0
-  Q = P around f D named top low from
-
-  abbrev Here : ℕ → ℕ → Label → Type 0
-  Here = At around f D named top low from
+  open words around f D named top low from use {fi, fr, Q, Here}
 
   module _ (i r : ℕ) (l : Label) (at : Here i r l) (o : ℕ → ℕ → Op) (place : ℕ → Element → Number) (count : ℕ) (finds : FindsElement around f l o place count) (early : from ≤ i) where
     abbrev V : Label → ℕ → Number → Mark

@@ -1,18 +1,8 @@
 -- The code of lvalues: the base of what is named, and the index of its cell, come to their registers.
-use Rattle.sharc_typed_laws.proofs.{Imports.{◌≡◌, ℕ, ◌+◌, ◌*◌, ◌<◌, ◌≤◌, Bool, true, List, Option, Some, None, refl, sym, ap, ◌∙◌, subst, arith, put_other, Op, Spot, OpWrites, Context, ref_count, guard_width, bounds_code, StaticType, cells_of, Empty, Refers, Element, Number, OfElement, OfGlobal, Closed, Label, Fresh, set_number, ints_in, refs_in, Mark, Setting, IsPlain, mark, Typing}, Rules.{on_bounds, on_global_bounds}, Parts.{P, At, with_number}, Indexes.{FindsElement, element_of, fresh_name, is_fresh, bound_at, beside_at}, Accessed.indexed}
+use Rattle.sharc_typed_laws.proofs.{Imports.{◌≡◌, ℕ, ◌+◌, ◌*◌, ◌<◌, ◌≤◌, true, Option, Some, None, refl, sym, ap, ◌∙◌, subst, arith, put_other, Op, Spot, OpWrites, Context, ref_count, guard_width, bounds_code, StaticType, cells_of, Empty, Refers, Element, Number, OfElement, OfGlobal, Closed, Label, Fresh, set_number, ints_in, refs_in, Mark, Setting, IsPlain, mark, Typing}, Rules.{on_bounds, on_global_bounds}, Parts.{with_number}, Indexes.{FindsElement, element_of, fresh_name, is_fresh, bound_at, beside_at}, Accessed.indexed, Words.words}
 
 module _ (around : Setting) (f : ℕ) (D : (ℕ → Mark) → Type 0) (y : Typing) (c : Context) (low : (p : ℕ) → y.named c p ≡ true → p < ref_count c.scope) (from : ℕ) where
-  abbrev named : ℕ → Bool
-  named = y.named c
-
-  abbrev top : ℕ
-  top = ref_count c.scope
-
-  abbrev Q : Mark → List Op → Mark → Type 0
-  Q = P around f D named top low from
-
-  abbrev Here : ℕ → ℕ → Label → Type 0
-  Here = At around f D named top low from
+  open words around f D (y.named c) (ref_count c.scope) low from use {named, top, Q, Here}
 
   -- ---- which element it is
   -- the fields that are accessed are some of an element's

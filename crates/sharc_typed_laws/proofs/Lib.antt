@@ -54,3 +54,4 @@ pub mod Variables
 pub mod Waiting
 pub mod Weaker
 pub mod Whole
+pub mod Words

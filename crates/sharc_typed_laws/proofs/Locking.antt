@@ -1,21 +1,8 @@
 -- Mutexes are taken and given back.
-use Rattle.sharc_typed_laws.proofs.{Imports.{◌≡◌, ℕ, ◌+◌, ◌<◌, ◌≤◌, Bool, true, false, List, [], ◌∷◌, ◌++◌, Some, None, refl, sym, ap, ◌∙◌, subst, inr, ⊎_elim, arith, false≢true, cases_eq, cases_lt, Cell, put, put_same, put_other, put_all, Op, Spot, Context, ref_count, Target, variable, in_global, in_global_at, in_object, in_object_at, has_base, base_width, cell_of, unlocked_code, is_cell, Empty, Refers, Element, Number, Anything, Gate, Closed, Holds, Label, Less, LessNumber, LessEntry, LessGate, EntryMentions, IsFree, fill, empty, without_index, IsBaseFree, ints_in, refs_in, without_base_of, unlocked_label, less_refl, less_entry_refl, less_number_refl, scoped_fill, Mark, Setting, IsNamed, mark, Typing, IsPointerCopy, HasBaseAt, HasMutex, Ground, MutexTyped}, Standing.{less_by, less_emptied_over, without_same, scoped_frame, unnamed}, Moves.{on_held, on_not_held, on_room, on_lock, on_unlock}, Parts.{P, At, does, then_do, none, told_same, same_number, pop_at}, Values.over, Accessed.{Frame, IsInFrame, placed, ints_of, ints_below, at_base, placed_by, framed, copy_base, env_base, same_base, is_base}}
+use Rattle.sharc_typed_laws.proofs.{Imports.{◌≡◌, ℕ, ◌+◌, ◌<◌, ◌≤◌, Bool, true, false, [], ◌∷◌, Some, None, refl, sym, ap, ◌∙◌, subst, inr, ⊎_elim, arith, false≢true, cases_eq, cases_lt, Cell, put, put_same, put_other, put_all, Op, Spot, Context, ref_count, Target, variable, in_global, in_global_at, in_object, in_object_at, has_base, base_width, cell_of, unlocked_code, is_cell, Empty, Refers, Element, Number, Anything, Gate, Closed, Holds, Label, Less, LessNumber, LessEntry, LessGate, EntryMentions, IsFree, fill, empty, without_index, IsBaseFree, ints_in, refs_in, without_base_of, unlocked_label, less_refl, less_entry_refl, less_number_refl, scoped_fill, Mark, Setting, IsNamed, mark, Typing, IsPointerCopy, HasBaseAt, HasMutex, Ground, MutexTyped}, Standing.{less_by, less_emptied_over, without_same, scoped_frame, unnamed}, Moves.{on_held, on_not_held, on_room, on_lock, on_unlock}, Parts.{does, none, told_same, same_number, pop_at}, Values.over, Accessed.{Frame, IsInFrame, placed, ints_of, ints_below, at_base, placed_by, framed, copy_base, env_base, same_base, is_base}, Words.words}
 
 module _ (around : Setting) (f : ℕ) (D : (ℕ → Mark) → Type 0) (y : Typing) (c : Context) (low : (p : ℕ) → y.named c p ≡ true → p < ref_count c.scope) (from : ℕ) where
-  abbrev N : ℕ → Bool
-  N = y.named c
-
-  abbrev top : ℕ
-  top = ref_count c.scope
-
-  abbrev Q : Mark → List Op → Mark → Type 0
-  Q = P around f D N top low from
-
-  abbrev Here : ℕ → ℕ → Label → Type 0
-  Here = At around f D N top low from
-
-  joins : (s m e : Mark) (xs ys : List Op) → Q s xs m → Q m ys e → Q s (xs ++ ys) e
-  joins = then_do around f D N top low from
+  open words around f D (y.named c) (ref_count c.scope) low from use {named as N, top, Q, Here, joins}
 
   abbrev roomy : Label → Label
   roomy l = record l { room = true }

@@ -1,15 +1,8 @@
 -- A thread is started, after what it is handed.
-use Rattle.sharc_typed_laws.proofs.{Imports.{◌≡◌, ℕ, ◌+◌, ◌<◌, ◌≤◌, Bool, true, false, List, [], ◌∷◌, length, Some, refl, sym, ap, ◌∙◌, subst, ⊎_elim, arith, cases_eq, Parameter, Register, Width, Char, function_of, put, put_same, put_other, put_all, Op, Spot, Context, ref_count, StaticType, Empty, Refers, Number, Anything, Within, Label, LessNumber, LessEntry, EntryMentions, HasBase, fill, empty, set_number, without_copies, without_index, Passes, IsShared, ints_in, refs_in, less_entry_refl, less_number_refl, with_passes, Mark, Setting, IsNamed, mark, Typing}, Standing.{less_by, without_same, uncopied, scoped_frame, unnamed, stands_number}, Handing.on_spawn, Parts.{P, does, with_number}, Accessed.Frame}
+use Rattle.sharc_typed_laws.proofs.{Imports.{◌≡◌, ℕ, ◌+◌, ◌<◌, ◌≤◌, true, false, [], ◌∷◌, length, Some, refl, sym, ap, ◌∙◌, subst, ⊎_elim, arith, cases_eq, Parameter, Register, Width, Char, function_of, put, put_same, put_other, put_all, Op, Spot, Context, ref_count, StaticType, Empty, Refers, Number, Anything, Within, Label, LessNumber, LessEntry, EntryMentions, HasBase, fill, empty, set_number, without_copies, without_index, Passes, IsShared, ints_in, refs_in, less_entry_refl, less_number_refl, with_passes, Mark, Setting, IsNamed, mark, Typing}, Standing.{less_by, without_same, uncopied, scoped_frame, unnamed, stands_number}, Handing.on_spawn, Parts.{does, with_number}, Accessed.Frame, Words.words}
 
 module _ (around : Setting) (f : ℕ) (D : (ℕ → Mark) → Type 0) (y : Typing) (c : Context) (low : (p : ℕ) → y.named c p ≡ true → p < ref_count c.scope) (from : ℕ) where
-  abbrev N : ℕ → Bool
-  N = y.named c
-
-  abbrev top : ℕ
-  top = ref_count c.scope
-
-  abbrev Q : Mark → List Op → Mark → Type 0
-  Q = P around f D N top low from
+  open words around f D (y.named c) (ref_count c.scope) low from use {named as N, top, Q}
 
   module _ (i r : ℕ) (l : Label) (fr : Frame around f D y c low from i r l) (g : ℕ) (spot : Spot) (is : g < length around.code.functions.items) (starts : around.starts g ≡ true) (shared : (around.signature g).alone ≡ false) where
     abbrev n : Number

@@ -1,28 +1,12 @@
 -- What is accessed, with the base and the index of its cell at hand: loads, stores and takes.
-use Rattle.sharc_typed_laws.proofs.{Imports.{◌≡◌, ℕ, ◌+◌, ◌<◌, ◌≤◌, Bool, true, false, List, [], ◌∷◌, Some, refl, sym, ap, ◌∙◌, subst, inl, ⊎_elim, arith, false≢true, cases_eq, cases_lt, Cell, Width, put, put_same, put_other, put_all, Op, Spot, OpWrites, StaticType, Field, FieldType, Mentions, Readonly, Integer, Pointer, Empty, Refers, Number, Anything, Within, Gate, Closed, Loaded, Label, Less, LessNumber, LessEntry, LessGate, EntryMentions, IsScoped, set_number, fill, empty, without_copies, without_index, IsVacant, PointsTo, HasCell, FitsWidth, ints_in, refs_in, less_refl, less_entry_refl, less_number_refl, scoped_fill, IsNumberOf, Mark, Setting, Fits, IsAtHand, IsLine, IsNamed, MayReach, mark, none_some}, Standing.{less_by, without_same, uncopied, scoped_frame, unnamed, stands_number}, Telling.{told, other_than}, Accesses.{InFrame, on_load, on_store, on_load_reference, on_take_cell, on_store_reference, on_load_guard}, Parts.{P, does, At, same_number, told_same, told_number, with_number}}
+use Rattle.sharc_typed_laws.proofs.{Imports.{◌≡◌, ℕ, ◌+◌, ◌<◌, ◌≤◌, Bool, true, false, [], ◌∷◌, refl, sym, ap, ◌∙◌, subst, inl, ⊎_elim, arith, false≢true, cases_eq, cases_lt, Cell, Width, put, put_same, put_other, put_all, Op, Spot, StaticType, Field, FieldType, Mentions, Readonly, Integer, Pointer, Empty, Refers, Number, Anything, Within, Gate, Closed, Loaded, Label, Less, LessNumber, LessEntry, LessGate, EntryMentions, IsScoped, set_number, fill, empty, without_copies, without_index, IsVacant, PointsTo, HasCell, FitsWidth, ints_in, refs_in, less_refl, less_entry_refl, less_number_refl, scoped_fill, IsNumberOf, Mark, Setting, IsAtHand, IsNamed, MayReach, mark, none_some}, Standing.{less_by, without_same, uncopied, scoped_frame, unnamed, stands_number}, Telling.{told, other_than}, Accesses.{InFrame, on_load, on_store, on_load_reference, on_take_cell, on_store_reference, on_load_guard}, Parts.{same_number, told_same, told_number, with_number}, Words.words}
 
 -- the integer registers hold this, and this stands directly before
 abbrev pub over : Label → (ℕ → Number) → Gate → Label
 over l g c = record l { ints = g; gate = c }
 
 module _ (around : Setting) (f : ℕ) (D : (ℕ → Mark) → Type 0) (named : ℕ → Bool) (top : ℕ) (low : (p : ℕ) → named p ≡ true → p < top) (from : ℕ) where
-  abbrev fi : ℕ
-  fi = ints_in around.code (Some f)
-
-  abbrev fr : ℕ
-  fr = refs_in around.code (Some f)
-
-  abbrev Q : Mark → List Op → Mark → Type 0
-  Q = P around f D named top low from
-
-  abbrev Here : ℕ → ℕ → Label → Type 0
-  Here = At around f D named top low from
-
-  abbrev Scoped : Mark → Type 0
-  Scoped s = IsScoped fi fr s.label
-
-  one : (s : Mark) (o : Op) (e : Mark) → (OpWrites fi fr o → Scoped s → Scoped e) → ((table : ℕ → Mark) (pc : ℕ) → OpWrites fi fr o → Scoped s → Fits around.targets e (table (pc + 1)) → IsLine around f table pc s o) → Q s (o ∷ []) e
-  one = does around f D named top low from
+  open words around f D named top low from use {fi, fr, Q, Here, Scoped, one}
 
   -- A label of which so many registers are taken, with anything in the integer registers that are free, and any gate.
   module _ (i r : ℕ) (l : Label) (at : Here i r l) (g : ℕ → Number) (below : (j : ℕ) → j < i → g j ≡ l.ints j) where

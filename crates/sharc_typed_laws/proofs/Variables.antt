@@ -1,24 +1,8 @@
 -- Variables: copies of them, and what is assigned to them; and a reference that takes the place of the base through which it was found.
-use Rattle.sharc_typed_laws.proofs.{Imports.{◌≡◌, ℕ, ◌+◌, ◌<◌, ◌≤◌, Bool, true, false, cond, List, [], ◌∷◌, Some, None, refl, sym, ap, ◌∙◌, subst, inl, inr, ⊎_elim, arith, false≢true, cases_eq, either_false, same_Some, nat_eq, Width, put, put_same, put_other, put_all, Op, OpWrites, StaticType, Mentions, Empty, Refers, Within, Closed, IsIn, Label, Less, Itself, IsCopy, LessNumber, LessGate, HasBase, EntryMentions, IsScoped, IsFree, set_number, fill, empty, without_copies, without_index, ints_in, refs_in, moved_copy, less_entry_refl, less_number_refl, scoped_fill, IsNumberOf, Mark, Setting, Fits, IsLine, IsNamed, mark, none_some, eq_refl}, Standing.{less_by, without_same, uncopied, scoped_frame, unnamed, entry_is as entry_same, number_is as number_same}, Telling.{told, other_than, same_as}, Rules.{on_move, on_local}, Moves.on_settle, Parts.{P, does, At, same_number, number_op, with_reference, with_number, scoped_below, number_below, number_above}}
+use Rattle.sharc_typed_laws.proofs.{Imports.{◌≡◌, ℕ, ◌+◌, ◌<◌, ◌≤◌, Bool, true, false, cond, [], ◌∷◌, Some, None, refl, sym, ap, ◌∙◌, subst, inl, inr, ⊎_elim, arith, false≢true, cases_eq, either_false, same_Some, nat_eq, Width, put, put_same, put_other, put_all, Op, StaticType, Mentions, Empty, Refers, Within, Closed, IsIn, Label, Less, Itself, IsCopy, LessNumber, LessGate, HasBase, EntryMentions, IsFree, set_number, fill, empty, without_copies, without_index, ints_in, refs_in, moved_copy, less_entry_refl, less_number_refl, scoped_fill, IsNumberOf, Mark, Setting, IsNamed, mark, none_some, eq_refl}, Standing.{less_by, without_same, uncopied, scoped_frame, unnamed, entry_is as entry_same, number_is as number_same}, Telling.{told, other_than, same_as}, Rules.{on_move, on_local}, Moves.on_settle, Parts.{same_number, number_op, with_reference, with_number, scoped_below, number_below, number_above}, Words.words}
 
 module _ (around : Setting) (f : ℕ) (D : (ℕ → Mark) → Type 0) (named : ℕ → Bool) (top : ℕ) (low : (p : ℕ) → named p ≡ true → p < top) (from : ℕ) where
-  abbrev fi : ℕ
-  fi = ints_in around.code (Some f)
-
-  abbrev fr : ℕ
-  fr = refs_in around.code (Some f)
-
-  abbrev Q : Mark → List Op → Mark → Type 0
-  Q = P around f D named top low from
-
-  abbrev Here : ℕ → ℕ → Label → Type 0
-  Here = At around f D named top low from
-
-  abbrev Scoped : Mark → Type 0
-  Scoped s = IsScoped fi fr s.label
-
-  one : (s : Mark) (o : Op) (e : Mark) → (OpWrites fi fr o → Scoped s → Scoped e) → ((table : ℕ → Mark) (pc : ℕ) → OpWrites fi fr o → Scoped s → Fits around.targets e (table (pc + 1)) → IsLine around f table pc s o) → Q s (o ∷ []) e
-  one = does around f D named top low from
+  open words around f D named top low from use {fi, fr, Q, Here, Scoped, one}
 
   module _ (i r : ℕ) (l : Label) (at : Here i r l) where
     in_refs : (q : ℕ) → q < fr → q < refs_in around.code l.function

@@ -1,24 +1,11 @@
 -- What is done with condition variables, after what is handed to it.
-use Rattle.sharc_typed_laws.proofs.{Imports.{◌≡◌, ◌≢◌, ℕ, ◌+◌, ◌<◌, ◌≤◌, ◌⊎◌, Bool, true, false, List, [], ◌∷◌, ◌++◌, Some, refl, sym, ap, ◌∙◌, subst, inr, ⊎_elim, arith, false≢true, cases_eq, cases_lt, Cell, put, put_same, put_other, put_all, Op, Spot, Context, ref_count, first_cell_of, wait_code, StaticType, field_at, cells_of, MutexWord, Waiters, Empty, Refers, Gate, Closed, Holds, Label, Less, LessNumber, LessEntry, EntryMentions, IsScoped, fill, gated, knows, HasCell, ints_in, refs_in, less_refl, less_entry_refl, less_number_refl, scoped_fill, Mark, Setting, IsNamed, mark, Typing, HasMutex, HasWaiters, FirstCell}, Standing.{less_by, less_emptied_over, without_same, scoped_frame, unnamed}, Rules.on_check, Moves.{on_held, on_lock, on_unlock, on_cond_enter, on_cond_wait, on_cond_signal, on_cond_broadcast}, Parts.{P, At, at_fill, does, then_do, told_same, same_number, check_at, pop_at, pops_two}, Accessed.Frame}
+use Rattle.sharc_typed_laws.proofs.{Imports.{◌≡◌, ◌≢◌, ℕ, ◌+◌, ◌<◌, ◌≤◌, ◌⊎◌, Bool, true, false, [], ◌∷◌, Some, refl, sym, ap, ◌∙◌, subst, inr, ⊎_elim, arith, false≢true, cases_eq, cases_lt, Cell, put, put_same, put_other, put_all, Op, Spot, Context, ref_count, first_cell_of, wait_code, StaticType, field_at, cells_of, MutexWord, Waiters, Empty, Refers, Gate, Closed, Holds, Label, Less, LessNumber, LessEntry, EntryMentions, IsScoped, fill, gated, knows, HasCell, ints_in, refs_in, less_refl, less_entry_refl, less_number_refl, scoped_fill, Mark, Setting, IsNamed, mark, Typing, HasMutex, HasWaiters, FirstCell}, Standing.{less_by, less_emptied_over, without_same, scoped_frame, unnamed}, Rules.on_check, Moves.{on_held, on_lock, on_unlock, on_cond_enter, on_cond_wait, on_cond_signal, on_cond_broadcast}, Parts.{At, at_fill, does, told_same, same_number, check_at, pop_at, pops_two}, Accessed.Frame, Words.words}
 
 module _ (around : Setting) (f : ℕ) (D : (ℕ → Mark) → Type 0) (y : Typing) (c : Context) (low : (p : ℕ) → y.named c p ≡ true → p < ref_count c.scope) (from : ℕ) where
-  abbrev N : ℕ → Bool
-  N = y.named c
-
-  abbrev top : ℕ
-  top = ref_count c.scope
-
-  abbrev Q : Mark → List Op → Mark → Type 0
-  Q = P around f D N top low from
-
-  abbrev refs : ℕ
-  refs = refs_in around.code (Some f)
+  open words around f D (y.named c) (ref_count c.scope) low from use {named as N, top, Q, fr as refs, joins}
 
   abbrev Scoped : Label → Type 0
   Scoped = IsScoped (ints_in around.code (Some f)) refs
-
-  joins : (s m e : Mark) (xs ys : List Op) → Q s xs m → Q m ys e → Q s (xs ++ ys) e
-  joins = then_do around f D N top low from
 
   -- ---- the first cell of what a register refers to, which is not NULL
   holds_first : (l : Label) (r : ℕ) (s : StaticType) → l.function ≡ Some f → r < refs → l.env r ≡ Refers s → l.known r ≡ true → 0 < cells_of around.targets s.target → HasCell around.targets around.code l (first_cell_of r) (field_at around.targets s.target 0)
