@@ -4,7 +4,7 @@ use Rattle.std.specs.Prelude.{if◌then◌else◌, nat_le}
 use Rattle.sharc_word.specs.declared.step.WordEvent.{WordEvent}
 use Rattle.sharc_code.specs.{declared.code.Code.Code, declared.shape.Shape.Shape, Machine.Machine, Path.{turn, after, events_of_turn, may_go, counted, machine_after, events_of_path, made_in, IsPath}}
 use Rattle.sharc_cpu.specs.Thread.{ThreadView}
-use Rattle.sharc_bus.specs.Bus.{BusView}
+use Rattle.sharc_bus.specs.Bus.{BusView, SeatView}
 use Rattle.sharc_rounds.specs.{declared.hand.Hand.Hand, declared.stint.TheConstants.KEPT, declared.worker.Worker.Worker, Shares.first_turns, Round.{Seat, MadeQuantum, MadeQuantumAt, MayTurnAt, KeepsRoom, MayRun, MayRunAt, MayAllRun, HasRun, HasRunAt, HaveAllRun, KeepsRoomAt, KeepAllRoom}}
 
 -- ---- paths
@@ -83,7 +83,7 @@ module _ (code : Code) (s : Shape) (limit : ℕ) where
   made_both_at None None None first second q r = ap (λ (es : List WordEvent). es ++ second) q ∙ r
 
   -- ---- hands
-  pub has_both : (old mid new : Hand) → HasRun code s limit old mid → HasRun code s limit mid new → HasRun code s limit old new
+  pub has_both : (old mid new : Hand SeatView) → HasRun code s limit old mid → HasRun code s limit mid new → HasRun code s limit old new
   has_both old mid new h k = record {
     events = h.events ++ k.events;
     made = made_both_at old.seat mid.seat new.seat h.events k.events h.made k.made;
@@ -99,10 +99,10 @@ module _ (code : Code) (s : Shape) (limit : ℕ) where
   room_both_at turns more both (Some old) (Some mid) None events e q h k = tt
   room_both_at turns more both None mid new events e q h k = tt
 
-  pub room_both : (turns more both : ℕ) (old mid new : Hand) → both ≡ turns + more → HasRun code s limit old mid → KeepsRoom turns old.seat mid.seat → KeepsRoom more mid.seat new.seat → KeepsRoom both old.seat new.seat
+  pub room_both : (turns more both : ℕ) (old mid new : Hand SeatView) → both ≡ turns + more → HasRun code s limit old mid → KeepsRoom turns old.seat mid.seat → KeepsRoom more mid.seat new.seat → KeepsRoom both old.seat new.seat
   room_both turns more both old mid new e r h k = room_both_at turns more both old.seat mid.seat new.seat r.events e r.made h k
 
-  has_both_at : (old mid new : Option Hand) → HasRunAt code s limit old mid → HasRunAt code s limit mid new → HasRunAt code s limit old new
+  has_both_at : (old mid new : Option (Hand SeatView)) → HasRunAt code s limit old mid → HasRunAt code s limit mid new → HasRunAt code s limit old new
   has_both_at (Some old) (Some mid) (Some new) h k = has_both old mid new h k
   has_both_at (Some old) (Some mid) None h k = absurd k
   has_both_at (Some old) None new h k = absurd h
@@ -110,7 +110,7 @@ module _ (code : Code) (s : Shape) (limit : ℕ) where
   has_both_at None None (Some new) h k = absurd k
   has_both_at None None None h k = tt
 
-  pub have_both : (old mid new : Worker) → HaveAllRun code s limit old mid → HaveAllRun code s limit mid new → HaveAllRun code s limit old new
+  pub have_both : (old mid new : Worker SeatView) → HaveAllRun code s limit old mid → HaveAllRun code s limit mid new → HaveAllRun code s limit old new
   have_both old mid new h k = λ n. has_both_at (get_or old.hands.items n None) (get_or mid.hands.items n None) (get_or new.hands.items n None) (h n) (k n)
 
   -- ---- who may make more turns
@@ -121,26 +121,26 @@ module _ (code : Code) (s : Shape) (limit : ℕ) where
     may_at_seat turns more number None (Some new) events may q keeps = absurd q
     may_at_seat turns more number None None events may q keeps = tt
 
-    may_more : (turns more : ℕ) (old new : Hand) → MayRun code s limit bus (turns + more) old → HasRun code s limit old new → KeepsRoom turns old.seat new.seat → MayRun code s limit bus more new
+    may_more : (turns more : ℕ) (old new : Hand SeatView) → MayRun code s limit bus (turns + more) old → HasRun code s limit old new → KeepsRoom turns old.seat new.seat → MayRun code s limit bus more new
     may_more turns more old new may h keeps = record {
       bus_is = h.bus_is ∙ may.bus_is;
       may = subst (MayTurnAt code s limit more new.seat) (sym h.number) (may_at_seat turns more old.port.number old.seat new.seat h.events may.may h.made keeps);
     }
 
     -- behind a go a hand may make the turns that are left
-    pub may_rest : (turns both : ℕ) (old new : Hand) → turns ≤ both → MayRun code s limit bus both old → HasRun code s limit old new → KeepsRoom turns old.seat new.seat → MayRun code s limit bus (both - turns) new
+    pub may_rest : (turns both : ℕ) (old new : Hand SeatView) → turns ≤ both → MayRun code s limit bus both old → HasRun code s limit old new → KeepsRoom turns old.seat new.seat → MayRun code s limit bus (both - turns) new
     may_rest turns both old new le may h keeps =
         let e : both ≡ turns + (both - turns) = omega (arith, le) in
         may_more turns (both - turns) old new (subst (λ k. MayRun code s limit bus k old) e may) h keeps
 
-    may_more_at : (turns more : ℕ) (old new : Option Hand) → MayRunAt code s limit bus (turns + more) old → HasRunAt code s limit old new → KeepsRoomAt turns old new → MayRunAt code s limit bus more new
+    may_more_at : (turns more : ℕ) (old new : Option (Hand SeatView)) → MayRunAt code s limit bus (turns + more) old → HasRunAt code s limit old new → KeepsRoomAt turns old new → MayRunAt code s limit bus more new
     may_more_at turns more (Some old) (Some new) may h keeps = may_more turns more old new may h keeps
     may_more_at turns more (Some old) None may h keeps = tt
     may_more_at turns more None (Some new) may h keeps = absurd h
     may_more_at turns more None None may h keeps = tt
 
     -- behind a stint all may make those that are left
-    pub all_may_more : (turns more both : ℕ) (old new : Worker) → both ≡ turns + more → MayAllRun code s limit bus both old → HaveAllRun code s limit old new → KeepAllRoom turns old new → MayAllRun code s limit bus more new
+    pub all_may_more : (turns more both : ℕ) (old new : Worker SeatView) → both ≡ turns + more → MayAllRun code s limit bus both old → HaveAllRun code s limit old new → KeepAllRoom turns old new → MayAllRun code s limit bus more new
     all_may_more turns more both old new e may h keeps = λ n.
         may_more_at turns more (get_or old.hands.items n None) (get_or new.hands.items n None) (subst (λ k. MayRunAt code s limit bus k (get_or old.hands.items n None)) e (may n)) (h n) (keeps n)
 
@@ -148,10 +148,10 @@ module _ (code : Code) (s : Shape) (limit : ℕ) where
     fewer_at_seat few turns number (Some thread) le may = record { thread_is = may.thread_is; number_is = may.number_is; within = may.within; room = λ on. let r = may.room on in omega (arith, r, le) }
     fewer_at_seat few turns number None le may = tt
 
-    fewer_at : (few turns : ℕ) (hand : Option Hand) → few ≤ turns → MayRunAt code s limit bus turns hand → MayRunAt code s limit bus few hand
+    fewer_at : (few turns : ℕ) (hand : Option (Hand SeatView)) → few ≤ turns → MayRunAt code s limit bus turns hand → MayRunAt code s limit bus few hand
     fewer_at few turns None le may = tt
     fewer_at few turns (Some hand) le may = record { bus_is = may.bus_is; may = fewer_at_seat few turns hand.port.number hand.seat le may.may }
 
     -- who may make so many turns may make fewer
-    pub all_fewer : (few turns : ℕ) (worker : Worker) → few ≤ turns → MayAllRun code s limit bus turns worker → MayAllRun code s limit bus few worker
+    pub all_fewer : (few turns : ℕ) (worker : Worker SeatView) → few ≤ turns → MayAllRun code s limit bus turns worker → MayAllRun code s limit bus few worker
     all_fewer few turns worker le may = λ n. fewer_at few turns (get_or worker.hands.items n None) le (may n)

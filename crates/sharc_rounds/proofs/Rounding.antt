@@ -9,12 +9,12 @@ use Rattle.sharc_rounds.proofs.{Places.at_place, Dealing.{has_at, has_run}}
 use Rattle.sharc_cpu.specs.Thread.{ThreadView}
 use Rattle.sharc_lemmas.proofs.Lists.{any_default}
 
-abbrev hand_of : Seat → SeatView → Hand
+abbrev hand_of : Seat → SeatView → Hand SeatView
 hand_of seat port = record { seat = seat; port = port }
 
 -- what a quantum made of a thread with room it made of the thread
-one_without : (code : Code) (s : Shape) (limit : ℕ) (old room new : ThreadView) (events : List WordEvent) → HasRoom old room → MadeQuantum code s limit room new events → MadeQuantum code s limit old new events
-one_without code s limit old room new events h q = record {
+one_without : (code : Code) (s : Shape) (limit turns : ℕ) (old room new : ThreadView) (events : List WordEvent) → HasRoom turns old room → MadeQuantum code s limit room new events → MadeQuantum code s limit old new events
+one_without code s limit turns old room new events h q = record {
   thread = q.thread;
   founds = q.founds;
   path = subst (λ (m : Machine). IsPath code s m q.founds) h.machine q.path;
@@ -26,30 +26,30 @@ one_without code s limit old room new events h q = record {
   some = λ on low. q.some (ap (λ (m : Machine). may_go m.at.state) h.machine ∙ on) (subst (λ n. n < limit) (sym h.made) low);
 }
 
-pub without_room : (code : Code) (s : Shape) (limit : ℕ) (old room new : Seat) (events : List WordEvent) → HasRoomAt old room → MadeQuantumAt code s limit room new events → MadeQuantumAt code s limit old new events
-without_room code s limit (Some old) (Some room) (Some new) events h q = one_without code s limit old room new events h q
-without_room code s limit (Some old) (Some room) None events h q = absurd q
-without_room code s limit (Some old) None new events h q = absurd h
-without_room code s limit None (Some room) new events h q = absurd h
-without_room code s limit None None (Some new) events h q = absurd q
-without_room code s limit None None None events h q = q
+pub without_room : (code : Code) (s : Shape) (limit turns : ℕ) (old room new : Seat) (events : List WordEvent) → HasRoomAt turns old room → MadeQuantumAt code s limit room new events → MadeQuantumAt code s limit old new events
+without_room code s limit turns (Some old) (Some room) (Some new) events h q = one_without code s limit turns old room new events h q
+without_room code s limit turns (Some old) (Some room) None events h q = absurd q
+without_room code s limit turns (Some old) None new events h q = absurd h
+without_room code s limit turns None (Some room) new events h q = absurd h
+without_room code s limit turns None None (Some new) events h q = absurd q
+without_room code s limit turns None None None events h q = q
 
 -- a thread with room may make a quantum
-pub fits_at : (code : Code) (s : Shape) (limit n number : ℕ) (old room : Seat) → number ≡ n → MayBeginAt code s limit n old → HasRoomAt old room → MayTurnAt code s limit QUANTUM room number
-fits_at code s limit n number (Some old) (Some room) e may h = record {
+pub fits_at : (code : Code) (s : Shape) (limit turns n number : ℕ) (old room : Seat) → number ≡ n → MayBeginAt code s limit n old → HasRoomAt turns old room → MayTurnAt code s limit turns room number
+fits_at code s limit turns n number (Some old) (Some room) e may h = record {
   thread_is = h.thread code s may.thread_is;
   number_is = e ∙ sym may.number ∙ ap (λ (m : Machine). m.own.number) (sym h.machine);
   within = subst (λ k. k ≤ limit) (sym h.made) may.within;
   room = λ on. h.room (ap (λ (m : Machine). may_go m.at.state) (sym h.machine) ∙ on);
 }
-fits_at code s limit n number (Some old) None e may h = absurd h
-fits_at code s limit n number None (Some room) e may h = absurd h
-fits_at code s limit n number None None e may h = tt
+fits_at code s limit turns n number (Some old) None e may h = absurd h
+fits_at code s limit turns n number None (Some room) e may h = absurd h
+fits_at code s limit turns n number None None e may h = tt
 
 module _ (code : Code) (s : Shape) (limit : ℕ) (bus : BusView) (old seats : List Seat) (ports : List SeatView)
-    (begin : MayBegin code s limit old) (count : length seats ≡ length old) (room : (n : ℕ) → n < length old → HasRoomAt (get_or old n None) (get_or seats n None))
+    (begin : MayBegin code s limit old) (count : length seats ≡ length old) (room : (n : ℕ) → n < length old → HasRoomAt QUANTUM (get_or old n None) (get_or seats n None))
     (are : AreSeatsOf bus ports) (as_many : bus.ports ≡ THREADS) (fresh : All (λ (p : SeatView). p.events ≡ []) ports) where
-  pub fit : (n : ℕ) (hand : Hand) → n < THREADS → hand ≡ hand_of (get_or seats n hand.seat) (get_or ports n hand.port) → MayRun code s limit bus QUANTUM hand
+  pub fit : (n : ℕ) (hand : Hand SeatView) → n < THREADS → hand ≡ hand_of (get_or seats n hand.seat) (get_or ports n hand.port) → MayRun code s limit bus QUANTUM hand
   fit n hand low is = subst (MayRun code s limit bus QUANTUM) (sym is) (
       let port : SeatView = get_or ports n hand.port in
       let within : n < length old = omega (arith, low, begin.count) in
@@ -58,7 +58,7 @@ module _ (code : Code) (s : Shape) (limit : ℕ) (bus : BusView) (old seats : Li
       let here : MayRun code s limit bus QUANTUM (hand_of (get_or seats n hand.seat) port) = record {
         bus_is = are.bus_is n hand.port there;
         may = subst (λ (x : Seat). MayTurnAt code s limit QUANTUM x port.number) same
-            (fits_at code s limit n port.number (get_or old n None) (get_or seats n None) (are.number_is n hand.port there) (begin.each n within) (room n within));
+            (fits_at code s limit QUANTUM n port.number (get_or old n None) (get_or seats n None) (are.number_is n hand.port there) (begin.each n within) (room n within));
       } in
       here)
 
@@ -91,29 +91,29 @@ module _ (code : Code) (s : Shape) (limit : ℕ) (bus : BusView) (old seats : Li
           let events : h.events ≡ get_or (lists_of backs) n [] =
           ap (λ es. es ++ h.events) (sym none) ∙ sym h.events_are ∙ sym (get_or-map (λ (p : SeatView). p.events) backs n nobody [] (omega (arith, below, back_count))) in
           subst (MadeQuantumAt code s limit (get_or old n None) (get_or new n None)) events
-          (without_room code s limit (get_or old n None) (get_or seats n None) (get_or new n None) h.events (room n low) h.made);
+          (without_room code s limit QUANTUM (get_or old n None) (get_or seats n None) (get_or new n None) h.events (room n low) h.made);
     }
 
 -- ---- through the workers
-module _ (code : Code) (s : Shape) (limit : ℕ) (count : ℕ) (workers after : List Worker) (seats : List Seat) (ports : List SeatView)
+module _ (code : Code) (s : Shape) (limit : ℕ) (count : ℕ) (workers after : List (Worker SeatView)) (seats : List Seat) (ports : List SeatView)
     (some : 0 < count) (many : length workers ≡ count) (same : length after ≡ length workers)
-    (dealt : (n : ℕ) (d : Worker) (a : Seat) (p : SeatView) → n < THREADS → hand_at workers (n % count) n d ≡ Some (hand_of (get_or seats n a) (get_or ports n p)))
-    (all_ran : (w : ℕ) (d : Worker) → w < length workers → HaveAllRun code s limit (get_or workers w d) (get_or after w d)) where
+    (dealt : (n : ℕ) (d : Worker SeatView) (a : Seat) (p : SeatView) → n < THREADS → hand_at workers (n % count) n d ≡ Some (hand_of (get_or seats n a) (get_or ports n p)))
+    (all_ran : (w : ℕ) (d : Worker SeatView) → w < length workers → HaveAllRun code s limit (get_or workers w d) (get_or after w d)) where
   far : (n : ℕ) → n % count < length workers
   far n = omega (arith, mod_below n count some, many)
 
   as_many_after : length after ≡ count
   as_many_after = same ∙ many
 
-  pub has_hand : (n : ℕ) (d : Worker) (a : Seat) (p : SeatView) → n < THREADS → (hand : Hand) × (hand_at after (n % length after) n d ≡ Some hand)
+  pub has_hand : (n : ℕ) (d : Worker SeatView) (a : Seat) (p : SeatView) → n < THREADS → (hand : Hand SeatView) × (hand_at after (n % length after) n d ≡ Some hand)
   has_hand n d a p low =
-      subst (λ k. (hand : Hand) × (hand_at after (n % k) n d ≡ Some hand)) (sym as_many_after)
+      subst (λ k. (hand : Hand SeatView) × (hand_at after (n % k) n d ≡ Some hand)) (sym as_many_after)
       (has_at code s limit (hand_at workers (n % count) n d) (hand_at after (n % count) n d) (hand_of (get_or seats n a) (get_or ports n p)) (dealt n d a p low) (all_ran (n % count) d (far n) n))
 
   pub through : (new : List Seat) (backs : List SeatView)
-      → ((n : ℕ) (d : Worker) (a : Seat) (p : SeatView) → n < THREADS → hand_at after (n % length after) n d ≡ Some (hand_of (get_or new n a) (get_or backs n p)))
+      → ((n : ℕ) (d : Worker SeatView) (a : Seat) (p : SeatView) → n < THREADS → hand_at after (n % length after) n d ≡ Some (hand_of (get_or new n a) (get_or backs n p)))
       → (n : ℕ) (a : Seat) (p : SeatView) (b : Seat) (q : SeatView) → n < THREADS → HasRun code s limit (hand_of (get_or seats n a) (get_or ports n p)) (hand_of (get_or new n b) (get_or backs n q))
   through new backs gathered n a p b q low =
-      let d : Worker = (at_place workers 0 (omega (arith, some, many))).one in
+      let d : Worker SeatView = (at_place workers 0 (omega (arith, some, many))).one in
       has_run code s limit (hand_at workers (n % count) n d) (hand_at after (n % count) n d) (hand_of (get_or seats n a) (get_or ports n p)) (hand_of (get_or new n b) (get_or backs n q))
       (dealt n d a p low) (subst (λ k. hand_at after (n % k) n d ≡ Some (hand_of (get_or new n b) (get_or backs n q))) as_many_after (gathered n d b q low)) (all_ran (n % count) d (far n) n)

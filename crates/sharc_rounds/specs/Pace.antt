@@ -4,6 +4,7 @@ use Rattle.std.specs.Prelude.{if◌then◌else◌, nat_le, nat_lt, sum_by}
 use Rattle.sharc_code.specs.declared.state.Wait.{Wait}
 use Rattle.sharc_code.specs.declared.state.Wait.TheVariants.{Mutex, Join, Cond}
 use Rattle.sharc_cpu.specs.Thread.{ThreadView}
+use Rattle.sharc_bus.specs.Bus.{SeatView}
 use Rattle.sharc_rounds.specs.declared.pace.{Pace.Pace, Speed.Speed, Makers.Makers}
 use Rattle.sharc_rounds.specs.declared.pace.TheConstants.{FIRST, APART, MOST_APART, CALM}
 use Rattle.sharc_rounds.specs.declared.hand.Hand.{Hand}
@@ -142,7 +143,7 @@ abbrev pub made_by : Option ThreadView → ℕ
 made_by None = 0
 made_by (Some thread) = thread.made
 
-abbrev pub made_at : Option Hand → ℕ
+abbrev pub made_at : Option (Hand SeatView) → ℕ
 made_at None = 0
 made_at (Some hand) = made_by hand.seat
 
@@ -150,7 +151,7 @@ made_at (Some hand) = made_by hand.seat
 abbrev pub events_of : List (Option ThreadView) → ℕ
 events_of seats = at_most_64_bits (sum_by made_by seats)
 
-abbrev pub events_at_hands : List (Option Hand) → ℕ
+abbrev pub events_at_hands : List (Option (Hand SeatView)) → ℕ
 events_at_hands hands = at_most_64_bits (sum_by made_at hands)
 
 -- whether a thread waits for what another may do at any time: a mutex or a condition

@@ -3,20 +3,27 @@ use Rattle.std.specs.Prelude.{ℕ, ◌≡◌, ◌≢◌, ◌<◌, ◌≤◌, ◌
 use Rattle.std.specs.Prelude.{slice_index_or}
 use Rattle.sharc_word.specs.{declared.step.WordEvent.WordEvent, declared.step.TheConstants.THREADS}
 use Rattle.sharc_code.specs.{declared.code.Code.Code, declared.shape.Shape.Shape, declared.state.Wait.Wait}
-use Rattle.sharc_code.specs.Layout.{words_of, state_word}
+use Rattle.sharc_code.specs.Layout.{Fits, words_of, state_word}
 use Rattle.sharc_code.specs.Path.{IsPath, machine_after, events_of_path, made_in, may_go}
 use Rattle.sharc_code.specs.{Runs.{Turn, IsRun, opening_of}, Opening.opening_words}
 use Rattle.sharc_code.specs.Whole.{one_thread, bounds, place_after}
 use Rattle.sharc_code.specs.declared.state.Wait.TheVariants as waits
-use Rattle.sharc_cpu.specs.Thread.{ThreadView, IsThread}
-use Rattle.sharc_bus.specs.Bus.{BusView, IsOf, OneHistory}
+use Rattle.sharc_cpu.specs.{Thread.{ThreadView, IsThread}, Rows.IsPlan, declared.rows.RowPlan.RowPlan}
+use Rattle.sharc_bus.specs.Bus.{BusView, SeatView, IsOf, OneHistory}
 use Rattle.sharc_threads.specs.Seats.{AreSeats}
-use Rattle.sharc_rounds.specs.{declared.stint.TheConstants.QUANTUM, declared.hand.Hand.Hand}
+use Rattle.sharc_rounds.specs.{declared.hand.Hand.Hand}
 use Rattle.sharc_rounds.specs.{declared.worker.Worker.Worker, declared.round.Rounds.Rounds, declared.words.Words.Words}
 
 -- a place of the table of threads: a thread that was started, or none
 abbrev pub Seat : Type 0
 Seat = Option ThreadView
+
+-- what is lent to all threads of a round fits together: the plan is one of the code, and there are as many words as the
+-- shape has, which fits the code
+pub record AreLent (code : Code) (plan : RowPlan) (s : Shape) (words : ℕ) : Type 0 where
+  pub plan_is : IsPlan code plan
+  pub fits : Fits code s
+  pub words_are : words ≡ words_of s
 
 -- ---- one thread
 -- it went on by a path with these word events. One that is gone or stopped made no turn; another that was below the
@@ -32,6 +39,14 @@ pub record MadeQuantum (code : Code) (s : Shape) (limit : ℕ) (old new : Thread
   pub made : new.made ≡ old.made + made_in code s old.machine founds
   pub within : new.made ≤ limit
   pub some : may_go old.machine.at.state ≡ true → old.made < limit → founds ≢ []
+
+-- and these events were appended to those; they are no more than its turns
+pub record MadeOver (code : Code) (s : Shape) (limit turns : ℕ) (old new : ThreadView)
+    (before after : List WordEvent) : Type 0 where
+  pub events : List WordEvent
+  pub made : MadeQuantum code s limit old new events
+  pub events_are : after ≡ before ++ events
+  pub few : length events ≤ turns
 
 -- so did the thread at a place, and where none is there are no events
 abbrev pub MadeQuantumAt : Code → Shape → ℕ → Seat → Seat → List WordEvent → Type 0
@@ -56,12 +71,13 @@ MayTurnAt code s limit turns (Some thread) number = MayTurn code s limit turns t
 MayTurnAt code s limit turns None number = Unit {0}
 
 -- a hand of this bus may make so many turns
-pub record MayRun (code : Code) (s : Shape) (limit : ℕ) (bus : BusView) (turns : ℕ) (hand : Hand) : Type 0 where
+pub record MayRun (code : Code) (s : Shape) (limit : ℕ) (bus : BusView) (turns : ℕ)
+    (hand : Hand SeatView) : Type 0 where
   pub bus_is : hand.port.bus ≡ bus.id
   pub may : MayTurnAt code s limit turns hand.seat hand.port.number
 
 -- its thread made a quantum, and its port the events of that
-pub record HasRun (code : Code) (s : Shape) (limit : ℕ) (old new : Hand) : Type 0 where
+pub record HasRun (code : Code) (s : Shape) (limit : ℕ) (old new : Hand SeatView) : Type 0 where
   pub events : List WordEvent
   pub made : MadeQuantumAt code s limit old.seat new.seat events
   pub bus_is : new.port.bus ≡ old.port.bus
@@ -87,40 +103,40 @@ IsInSection (Some thread) =
 
 -- ---- workers
 -- so it is of the hand at a place, if there is one
-abbrev pub MayRunAt : Code → Shape → ℕ → BusView → ℕ → Option Hand → Type 0
+abbrev pub MayRunAt : Code → Shape → ℕ → BusView → ℕ → Option (Hand SeatView) → Type 0
 MayRunAt code s limit bus turns None = Unit {0}
 MayRunAt code s limit bus turns (Some hand) = MayRun code s limit bus turns hand
 
-abbrev pub HasRunAt : Code → Shape → ℕ → Option Hand → Option Hand → Type 0
+abbrev pub HasRunAt : Code → Shape → ℕ → Option (Hand SeatView) → Option (Hand SeatView) → Type 0
 HasRunAt code s limit None None = Unit {0}
 HasRunAt code s limit (Some old) (Some new) = HasRun code s limit old new
 HasRunAt code s limit None (Some new) = ⊥
 HasRunAt code s limit (Some old) None = ⊥
 
-abbrev pub KeepsRoomAt : ℕ → Option Hand → Option Hand → Type 0
+abbrev pub KeepsRoomAt : ℕ → Option (Hand SeatView) → Option (Hand SeatView) → Type 0
 KeepsRoomAt turns (Some old) (Some new) = KeepsRoom turns old.seat new.seat
 KeepsRoomAt turns (Some old) None = Unit {0}
 KeepsRoomAt turns None new = Unit {0}
 
-abbrev pub MayAllRun : Code → Shape → ℕ → BusView → ℕ → Worker → Type 0
+abbrev pub MayAllRun : Code → Shape → ℕ → BusView → ℕ → Worker SeatView → Type 0
 MayAllRun code s limit bus turns worker = (n : ℕ)
     → MayRunAt code s limit bus turns (slice_index_or worker.hands.items n None)
 
-abbrev pub HaveAllRun : Code → Shape → ℕ → Worker → Worker → Type 0
+abbrev pub HaveAllRun : Code → Shape → ℕ → Worker SeatView → Worker SeatView → Type 0
 HaveAllRun code s limit old new = (n : ℕ)
     → HasRunAt code s limit (slice_index_or old.hands.items n None) (slice_index_or new.hands.items n None)
 
-abbrev pub KeepAllRoom : ℕ → Worker → Worker → Type 0
+abbrev pub KeepAllRoom : ℕ → Worker SeatView → Worker SeatView → Type 0
 KeepAllRoom turns old new = (n : ℕ)
     → KeepsRoomAt turns (slice_index_or old.hands.items n None) (slice_index_or new.hands.items n None)
 
 -- whether a thread is at a place that is neither gone nor stopped
-abbrev pub goes_on : Option Hand → Bool
+abbrev pub goes_on : Option (Hand SeatView) → Bool
 goes_on None = false
 goes_on (Some hand) = is_on hand.seat
 
 -- the hand of this number at this worker
-abbrev pub hand_at : List Worker → ℕ → ℕ → Worker → Option Hand
+abbrev pub hand_at : {S : Type 0} → List (Worker S) → ℕ → ℕ → Worker S → Option (Hand S)
 hand_at workers w n d = slice_index_or (slice_index_or workers w d).hands.items n None
 
 -- ---- a round
@@ -149,18 +165,18 @@ pub record MayBegin (code : Code) (s : Shape) (limit : ℕ) (seats : List Seat) 
   pub count : length seats ≡ THREADS
   pub each : (n : ℕ) → n < length seats → MayBeginAt code s limit n (slice_index_or seats n None)
 
--- a thread that goes on has room for the prints of a quantum, and is else as it was
-pub record HasRoom (old new : ThreadView) : Type 0 where
-  pub room : may_go old.machine.at.state ≡ true → QUANTUM ≤ new.room
+-- a thread that goes on has room for the prints of so many turns, and is else as it was
+pub record HasRoom (turns : ℕ) (old new : ThreadView) : Type 0 where
+  pub room : may_go old.machine.at.state ≡ true → turns ≤ new.room
   pub thread : (code : Code) (s : Shape) → IsThread code s old → IsThread code s new
   pub machine : new.machine ≡ old.machine
   pub made : new.made ≡ old.made
 
-abbrev pub HasRoomAt : Seat → Seat → Type 0
-HasRoomAt (Some old) (Some new) = HasRoom old new
-HasRoomAt None None = Unit {0}
-HasRoomAt (Some old) None = ⊥
-HasRoomAt None (Some new) = ⊥
+abbrev pub HasRoomAt : ℕ → Seat → Seat → Type 0
+HasRoomAt turns (Some old) (Some new) = HasRoom turns old new
+HasRoomAt turns None None = Unit {0}
+HasRoomAt turns (Some old) None = ⊥
+HasRoomAt turns None (Some new) = ⊥
 
 -- ---- between two rounds
 -- they are on the bus of the threads, and none is looked at that is not there

@@ -2,9 +2,8 @@
 
 ghost use Rattle.std.specs.Prelude.{◌≡◌, ◌<◌, ◌≤◌, ◌↔◌, true, Some, IsTrue, length};
 ghost use Rattle.sharc_word.specs.declared.step.TheConstants.{THREADS as threads};
-ghost use Rattle.sharc_code.specs.{Layout.{Fits, words_of}, Path.may_go};
-ghost use Rattle.sharc_cpu.specs.Rows.{IsPlan};
-ghost use Rattle.sharc_rounds.specs.Round.{MayTurn, HasRun, MayRun, KeepsRoom, IsInSection, is_on};
+ghost use Rattle.sharc_code.specs.Path.{may_go};
+ghost use Rattle.sharc_rounds.specs.Round.{AreLent, MayTurn, HasRun, MayRun, KeepsRoom, IsInSection, is_on};
 
 use crate::gate::{Gate, GatedPort};
 use crate::share::most_events;
@@ -15,11 +14,11 @@ use sharc_cpu::{RowPlan, Thread, run_trying};
 use sharc_threads::is_on;
 use sharc_word::place_laws;
 
-/// A place of the table of threads, and its seat on the bus of the round.
+/// A place of the table of threads, and its seat at what the threads of the round share.
 #[derive(Drop)]
-pub(crate) struct Hand {
-    pub(crate) seat: Option<Thread>,
-    pub(crate) port: BusSeat,
+pub struct Hand<S> {
+    pub seat: Option<Thread>,
+    pub port: S,
 }
 
 // One go of a thread that is neither gone nor stopped.
@@ -34,10 +33,8 @@ fn run_thread<G: Gate>(
     worker: u32,
     limit: u64,
     stint: Stint,
-) -> Hand
-    requires plan { IsPlan code.now plan.now }
-    requires fits { Fits code.now shape.now }
-    requires words { length bus.now.opening ≡ words_of shape.now }
+) -> Hand<BusSeat>
+    requires lent { AreLent code.now plan.now shape.now (length bus.now.opening) }
     requires bus { port.bus ≡ bus.now.id }
     requires some { 0 < stint.turns }
     requires on { may_go thread.machine.at.state ≡ true }
@@ -81,7 +78,7 @@ fn is_in_section(seat: &Option<Thread>) -> bool
     }
 }
 
-impl Hand {
+impl Hand<BusSeat> {
     // One go of the thread, which is neither gone nor stopped.
     fn go<G: Gate>(
         self,
@@ -93,10 +90,8 @@ impl Hand {
         worker: u32,
         limit: u64,
         stint: Stint,
-    ) -> Hand
-        requires plan { IsPlan code.now plan.now }
-        requires fits { Fits code.now shape.now }
-        requires words { length bus.now.opening ≡ words_of shape.now }
+    ) -> Hand<BusSeat>
+        requires lent { AreLent code.now plan.now shape.now (length bus.now.opening) }
         requires some { 0 < stint.turns }
         requires on { is_on self.seat ≡ true }
         requires may { MayRun code.now shape.now limit bus.now stint.turns self }
@@ -124,10 +119,8 @@ impl Hand {
         worker: u32,
         limit: u64,
         stint: Stint,
-    ) -> Hand
-        requires plan { IsPlan code.now plan.now }
-        requires fits { Fits code.now shape.now }
-        requires words { length bus.now.opening ≡ words_of shape.now }
+    ) -> Hand<BusSeat>
+        requires lent { AreLent code.now plan.now shape.now (length bus.now.opening) }
         requires some { 0 < stint.turns }
         requires on { is_on self.seat ≡ true }
         requires may { MayRun code.now shape.now limit bus.now stint.turns self }

@@ -21,9 +21,11 @@ mod words;
 mod worker;
 
 pub use gate::{Gate, GatedPort};
-pub use laws::round_laws;
+pub use hand::Hand;
+pub use laws::{quantum_laws, round_laws};
+pub use room::reserve;
 pub use run::{RoundsRun, run_rounds};
 pub use sharc_threads::End;
 pub use share::most_events;
 pub use stint::QUANTUM;
-pub use worker::workers_needed;
+pub use worker::{Worker, deal, gather, workers_needed};

@@ -1,17 +1,15 @@
 //! A round that the caller makes alone by parts: it goes round the threads, and makes a part of the quantum of each.
 
 ghost use Rattle.std.specs.Prelude.{◌≡◌, ◌<◌, length};
-ghost use Rattle.sharc_code.specs.Layout.{Fits, words_of};
-ghost use Rattle.sharc_cpu.specs.Rows.{IsPlan};
 ghost use Rattle.sharc_rounds.specs.{declared.stint.TheConstants.QUANTUM as quantum, Pace.{next_part, made_at}};
-ghost use Rattle.sharc_rounds.specs.{Pace.events_at_hands, Round.{MayAllRun, HaveAllRun}};
+ghost use Rattle.sharc_rounds.specs.{Pace.events_at_hands, Round.{AreLent, MayAllRun, HaveAllRun}};
 
 use crate::gate::Gate;
 use crate::hand::Hand;
 use crate::pace::made_by;
 use crate::stint::{QUANTUM, Stint};
 use crate::worker::Worker;
-use sharc_bus::Bus;
+use sharc_bus::{Bus, BusSeat};
 use sharc_code::{Code, Shape};
 use sharc_cpu::RowPlan;
 
@@ -27,7 +25,7 @@ fn next_part(turns: u32) -> u32
 }
 
 // The events that the thread at a place has made.
-fn made_at(hand: &Option<Hand>) -> u64
+fn made_at(hand: &Option<Hand<BusSeat>>) -> u64
     ensures { result ≡ made_at hand.now }
 {
     match hand {
@@ -36,7 +34,7 @@ fn made_at(hand: &Option<Hand>) -> u64
     }
 }
 
-impl Worker {
+impl Worker<BusSeat> {
     // The events that its threads have made.
     fn events(&self) -> u64
         ensures { result ≡ events_at_hands self.now.hands.items }
@@ -61,9 +59,7 @@ impl Worker {
         limit: u64,
     )
         requires workers { 0 < workers }
-        requires plan { IsPlan code.now plan.now }
-        requires fits { Fits code.now shape.now }
-        requires words { length bus.now.opening ≡ words_of shape.now }
+        requires lent { AreLent code.now plan.now shape.now (length bus.now.opening) }
         requires may { MayAllRun code.now shape.now limit bus.now quantum self.old }
         ensures { HaveAllRun code.now shape.now limit self.old self.new }
     {

@@ -4,15 +4,17 @@ ghost use Rattle.std.specs.Prelude.{◌≡◌, ◌<◌, ℕ, length, IfOk, slice
 ghost use Rattle.sharc_word.specs.declared.step.TheConstants.{THREADS as threads};
 ghost use Rattle.sharc_code.specs.Layout.{Fits, words_of};
 ghost use Rattle.sharc_cpu.specs.Rows.{IsPlan};
+ghost use Rattle.sharc_bus.specs.Bus.{SeatView};
 ghost use Rattle.sharc_rounds.specs.{declared.stint.TheConstants.QUANTUM as quantum, declared.worker.Worker.Worker};
-ghost use Rattle.sharc_rounds.specs.Round.{MayBegin, MayAllRun, HaveAllRun, MadeRound, AreWords, KeptBus};
+ghost use Rattle.sharc_rounds.specs.Round.{AreLent, MayBegin, MayAllRun, HaveAllRun, MadeRound, AreWords, KeptBus};
 
 use crate::gate::Gate;
 use crate::pace::Makers;
 use crate::room::reserve;
+use crate::stint::QUANTUM;
 use crate::words::Words;
 use crate::worker::{Worker, deal, gather, run_all, workers_needed};
-use sharc_bus::Bus;
+use sharc_bus::{Bus, BusSeat};
 use sharc_code::{Code, Shape};
 use sharc_cpu::RowPlan;
 use sharc_threads::ThreadTable;
@@ -36,19 +38,17 @@ fn work<R: Threads + Sync, G: Gate + Sync>(
     gate: &G,
     workers: u32,
     limit: u64,
-    crew: &mut Vec<Worker>,
+    crew: &mut Vec<Worker<BusSeat>>,
     makers: Makers,
 )
-    requires plan { IsPlan code.now plan.now }
-    requires fits { Fits code.now shape.now }
-    requires words { length bus.now.opening ≡ words_of shape.now }
+    requires lent { AreLent code.now plan.now shape.now (length bus.now.opening) }
     requires workers { 0 < workers }
     requires some { 0 < length crew.old.items }
     requires alone { makers ≡ Makers.CallerByParts → length crew.old.items ≡ 1 }
-    requires may { (w : ℕ) (d : Worker) → w < length crew.old.items
+    requires may { (w : ℕ) (d : Worker SeatView) → w < length crew.old.items
         → MayAllRun code.now shape.now limit bus.now quantum (slice_index_or crew.old.items w d) }
     ensures count { length crew.new.items ≡ length crew.old.items }
-    ensures each { (w : ℕ) (d : Worker) → w < length crew.old.items → HaveAllRun code.now shape.now limit
+    ensures each { (w : ℕ) (d : Worker SeatView) → w < length crew.old.items → HaveAllRun code.now shape.now limit
         (slice_index_or crew.old.items w d) (slice_index_or crew.new.items w d) }
 {
     match makers {
@@ -92,7 +92,7 @@ impl Rounds {
         let Rounds { threads, words } = self;
         let Words { bus, rest, seen } = words;
         let ThreadTable { mut seats } = threads;
-        reserve(&mut seats)?;
+        reserve(&mut seats, QUANTUM)?;
         let (ports, round) = bus.begin(alloc, rest)?;
         let count = makers.count(workers_needed(seats.as_slice(), workers));
         let mut crew = deal(alloc, count, seats, ports)?;

@@ -3,10 +3,8 @@
 ghost use Rattle.std.specs.Prelude.{◌≡◌, ◌<◌, ◌≤◌, ◌%◌, ◌^◌, ℕ, IsSome, length, Option, Some, None, IfOk};
 ghost use Rattle.std.specs.Prelude.{slice_index_or};
 ghost use Rattle.sharc_word.specs.declared.step.TheConstants.{THREADS as threads};
-ghost use Rattle.sharc_code.specs.Layout.{Fits, words_of};
 ghost use Rattle.sharc_bus.specs.Bus.{SeatView};
-ghost use Rattle.sharc_cpu.specs.Rows.{IsPlan};
-ghost use Rattle.sharc_rounds.specs.{declared.hand.Hand.Hand, declared.worker.Worker.Worker, Round.MayRunAt};
+ghost use Rattle.sharc_rounds.specs.{declared.hand.Hand.Hand, declared.worker.Worker.Worker, Round.{AreLent, MayRunAt}};
 ghost use Rattle.sharc_rounds.specs.Round.{HasRunAt, KeepsRoomAt, MayAllRun, HaveAllRun, KeepAllRoom, Seat, goes_on};
 ghost use Rattle.sharc_rounds.specs.{Round.hand_at, Shares.needed};
 
@@ -24,8 +22,8 @@ use std::thread::Threads;
 
 /// The threads of one worker: each is at its number, and the places of others are empty.
 #[derive(Drop)]
-pub(crate) struct Worker {
-    pub(crate) hands: Vec<Option<Hand>>,
+pub struct Worker<S> {
+    pub hands: Vec<Option<Hand<S>>>,
 }
 
 /// How many of these workers there are up to the last that has a thread, where thread `n` is at worker `n % workers`;
@@ -50,7 +48,7 @@ pub fn workers_needed(seats: &[Option<Thread>], workers: u32) -> u32
 }
 
 // Whether a thread is at the place that is neither gone nor stopped.
-fn goes_on(hand: &Option<Hand>) -> bool
+fn goes_on(hand: &Option<Hand<BusSeat>>) -> bool
     ensures { result ≡ goes_on hand.now }
 {
     match hand {
@@ -64,7 +62,7 @@ fn goes_on(hand: &Option<Hand>) -> bool
 
 // One stint of the thread at a place, if one is there that is neither gone nor stopped.
 fn run_at<G: Gate>(
-    hand: &mut Option<Hand>,
+    hand: &mut Option<Hand<BusSeat>>,
     code: &Code,
     plan: &RowPlan,
     shape: &Shape,
@@ -74,9 +72,7 @@ fn run_at<G: Gate>(
     limit: u64,
     stint: Stint,
 )
-    requires plan { IsPlan code.now plan.now }
-    requires fits { Fits code.now shape.now }
-    requires words { length bus.now.opening ≡ words_of shape.now }
+    requires lent { AreLent code.now plan.now shape.now (length bus.now.opening) }
     requires some { 0 < stint.turns }
     requires may { MayRunAt code.now shape.now limit bus.now stint.turns hand.old }
     ensures ran { HasRunAt code.now shape.now limit hand.old hand.new }
@@ -91,9 +87,9 @@ fn run_at<G: Gate>(
     };
 }
 
-impl Worker {
+impl<S: Drop> Worker<S> {
     // A worker with no thread.
-    fn new(alloc: Global) -> Result<Worker, AllocError>
+    fn new(alloc: Global) -> Result<Worker<S>, AllocError>
         ensures { IfOk result (λ w. (length w.hands.items ≡ threads)
             × ((n : ℕ) → slice_index_or w.hands.items n None ≡ None)) }
     {
@@ -103,7 +99,9 @@ impl Worker {
         }
         Ok(Worker { hands })
     }
+}
 
+impl Worker<BusSeat> {
     /// One stint of each thread, in rising order of their numbers.
     pub(crate) fn run<G: Gate>(
         &mut self,
@@ -117,9 +115,7 @@ impl Worker {
         stint: Stint,
     )
         requires workers { 0 < workers }
-        requires plan { IsPlan code.now plan.now }
-        requires fits { Fits code.now shape.now }
-        requires words { length bus.now.opening ≡ words_of shape.now }
+        requires lent { AreLent code.now plan.now shape.now (length bus.now.opening) }
         requires some { 0 < stint.turns }
         requires may { MayAllRun code.now shape.now limit bus.now stint.turns self.old }
         ensures ran { HaveAllRun code.now shape.now limit self.old self.new }
@@ -143,11 +139,11 @@ impl Worker {
 }
 
 // This many workers with no thread.
-fn idle(alloc: Global, count: u32) -> Result<Vec<Worker>, AllocError>
+fn idle<S: Drop>(alloc: Global, count: u32) -> Result<Vec<Worker<S>>, AllocError>
     ensures count { IfOk result (λ all. length all.items ≡ count) }
-    ensures each { IfOk result (λ all. (w : ℕ) (d : Worker) → w < count
+    ensures each { IfOk result (λ all. (w : ℕ) (d : Worker S) → w < count
         → length (slice_index_or all.items w d).hands.items ≡ threads) }
-    ensures none { IfOk result (λ all. (w n : ℕ) (d : Worker) → w < count → hand_at all.items w n d ≡ None) }
+    ensures none { IfOk result (λ all. (w n : ℕ) (d : Worker S) → w < count → hand_at all.items w n d ≡ None) }
 {
     let mut workers = Vec::new(alloc);
     for _ in 0..count {
@@ -156,23 +152,23 @@ fn idle(alloc: Global, count: u32) -> Result<Vec<Worker>, AllocError>
     Ok(workers)
 }
 
-/// Gives each thread, with its seat on the bus, to the worker of its number modulo the number of workers.
+/// Gives each thread, with its seat at what the round shares, to the worker of its number modulo the number of workers.
 ///
 /// An `Err` says that memory was not found.
-pub(crate) fn deal(
+pub fn deal<S: Drop>(
     alloc: Global,
     count: u32,
     seats: Vec<Option<Thread>>,
-    ports: Vec<BusSeat>,
-) -> Result<Vec<Worker>, AllocError>
+    ports: Vec<S>,
+) -> Result<Vec<Worker<S>>, AllocError>
     requires some { 0 < count }
     requires seats { length seats.items ≡ threads }
     requires ports { length ports.items ≡ threads }
     ensures count { IfOk result (λ all. length all.items ≡ count) }
-    ensures each { IfOk result (λ all. (n : ℕ) (d : Worker) (a : Seat) (p : SeatView) → n < threads
+    ensures each { IfOk result (λ all. (n : ℕ) (d : Worker S) (a : Seat) (p : S) → n < threads
         → hand_at all.items (n % count) n d
         ≡ Some record { seat = slice_index_or seats.items n a; port = slice_index_or ports.items n p }) }
-    ensures only { IfOk result (λ all. (w n : ℕ) (d : Worker) (hand : Hand) → w < count
+    ensures only { IfOk result (λ all. (w n : ℕ) (d : Worker S) (hand : Hand S) → w < count
         → hand_at all.items w n d ≡ Some hand → (n < threads) × (hand
         ≡ record { seat = slice_index_or seats.items n hand.seat; port = slice_index_or ports.items n hand.port })) }
 {
@@ -196,30 +192,26 @@ pub(crate) fn run_all<R: Threads + Sync, G: Gate + Sync>(
     gate: &G,
     workers: u32,
     limit: u64,
-    crew: &mut Vec<Worker>,
+    crew: &mut Vec<Worker<BusSeat>>,
     threads: usize,
     stint: Stint,
 )
-    requires plan { IsPlan code.now plan.now }
-    requires fits { Fits code.now shape.now }
-    requires words { length bus.now.opening ≡ words_of shape.now }
+    requires lent { AreLent code.now plan.now shape.now (length bus.now.opening) }
     requires workers { 0 < workers }
     requires threads { 0 < threads }
     requires some { 0 < stint.turns }
-    requires may { (w : ℕ) (d : Worker) → w < length crew.old.items
+    requires may { (w : ℕ) (d : Worker SeatView) → w < length crew.old.items
         → MayAllRun code.now shape.now limit bus.now stint.turns (slice_index_or crew.old.items w d) }
     ensures count { length crew.new.items ≡ length crew.old.items }
-    ensures each { (w : ℕ) (d : Worker) → w < length crew.old.items → HaveAllRun code.now shape.now limit
+    ensures each { (w : ℕ) (d : Worker SeatView) → w < length crew.old.items → HaveAllRun code.now shape.now limit
         (slice_index_or crew.old.items w d) (slice_index_or crew.new.items w d) }
 {
     thread::for_each_mut(
         rt,
         crew.as_mut_slice(),
         threads,
-        &|_w: usize, worker: &mut Worker|
-            requires plan { IsPlan code.now plan.now }
-            requires fits { Fits code.now shape.now }
-            requires words { length bus.now.opening ≡ words_of shape.now }
+        &|_w: usize, worker: &mut Worker<BusSeat>|
+            requires lent { AreLent code.now plan.now shape.now (length bus.now.opening) }
             requires workers { 0 < workers }
             requires some { 0 < stint.turns }
             requires may { MayAllRun code.now shape.now limit bus.now stint.turns worker.old }
@@ -228,19 +220,19 @@ pub(crate) fn run_all<R: Threads + Sync, G: Gate + Sync>(
     );
 }
 
-/// Takes all threads and their seats on the bus back, in the order of their numbers.
+/// Takes all threads and their seats back, in the order of their numbers.
 ///
 /// An `Err` says that memory was not found.
-pub(crate) fn gather(
+pub fn gather<S: Drop>(
     alloc: Global,
-    mut workers: Vec<Worker>,
-) -> Result<(Vec<Option<Thread>>, Vec<BusSeat>), AllocError>
+    mut workers: Vec<Worker<S>>,
+) -> Result<(Vec<Option<Thread>>, Vec<S>), AllocError>
     requires some { 0 < length workers.items }
-    requires each { (n : ℕ) (d : Worker) → n < threads
-        → (hand : Hand) × (hand_at workers.items (n % length workers.items) n d ≡ Some hand) }
+    requires each { (n : ℕ) (d : Worker S) → n < threads
+        → (hand : Hand S) × (hand_at workers.items (n % length workers.items) n d ≡ Some hand) }
     ensures seats { IfOk result (λ r. length r.0.items ≡ threads) }
     ensures ports { IfOk result (λ r. length r.1.items ≡ threads) }
-    ensures each { IfOk result (λ r. (n : ℕ) (d : Worker) (a : Seat) (p : SeatView) → n < threads
+    ensures each { IfOk result (λ r. (n : ℕ) (d : Worker S) (a : Seat) (p : S) → n < threads
         → hand_at workers.items (n % length workers.items) n d
         ≡ Some record { seat = slice_index_or r.0.items n a; port = slice_index_or r.1.items n p }) }
 {

@@ -1,4 +1,5 @@
 use Rattle.std.proofs.{Common.{◌≡◌, get_or, set, sym, ◌∙◌, subst, arith}, lemmas.List.{get_or-set_same}}
+use Rattle.sharc_bus.specs.Bus.{SeatView}
 use Rattle.sharc_rounds.specs.{declared.worker.Worker.Worker, declared.stint.TheConstants.QUANTUM, Round.{MayAllRun, HaveAllRun}}
 use Rattle.sharc_rounds.proofs.round.work.Goals as goal
 use Rattle.sharc_lemmas.proofs.Lists.{any_default}
@@ -7,16 +8,16 @@ pub run_by_parts-requires-clause-may : goal.run_by_parts-requires-clause-may
 run_by_parts-requires-clause-may g c =
     let code = c.args.code.now in
     let s = c.args.shape.now in
-    let first : Worker = c.index_mut.result.now in
-    subst (λ (w : Worker). MayAllRun code s c.args.limit c.args.bus.now QUANTUM w) (sym c.index_mut.ensures.value) (c.requires.may 0 first c.requires.some)
+    let first : Worker SeatView = c.index_mut.result.now in
+    subst (λ (w : Worker SeatView). MayAllRun code s c.args.limit c.args.bus.now QUANTUM w) (sym c.index_mut.ensures.value) (c.requires.may 0 first c.requires.some)
 
 pub returns-in-CallerByParts-clause-each : goal.returns-in-CallerByParts-clause-each
 returns-in-CallerByParts-clause-each g c = λ w d low.
     let code = c.args.code.now in
     let s = c.args.shape.now in
     let all = c.args.crew.now.items in
-    let first : Worker = c.index_mut.result.now in
-    let new : Worker = c.run_by_parts.new.self in
+    let first : Worker SeatView = c.index_mut.result.now in
+    let new : Worker SeatView = c.run_by_parts.new.self in
     let P = HaveAllRun code s c.args.limit in
     let one = c.requires.alone c.in-CallerByParts.is in
     let e : 0 ≡ w = omega (arith, low, one) in

@@ -1,8 +1,11 @@
-use Rattle.std.proofs.Common.{◌≡◌, ◌<◌, ℕ, List, refl, ap, subst, arith}
+use Rattle.std.proofs.Common.{◌≡◌, ◌<◌, ℕ, List, refl, sym, ap, ◌∙◌, subst, arith}
 use Rattle.sharc_bus.specs.Bus.{SeatView, RestView, OneHistory, lists_of}
 use Rattle.sharc_rounds.proofs.{Places.at_place, Dealing.may_at, Rounding.{fit, are_back, round_made, has_hand, through}}
 use Rattle.sharc_rounds.specs.{declared.stint.TheConstants.QUANTUM, Round.{Seat, hand_at}}
 use Rattle.sharc_rounds.proofs.round.Rounds.make.Goals as goal
+
+pub work-requires-clause-lent : goal.work-requires-clause-lent
+work-requires-clause-lent g c = λ k h. record { plan_is = c.requires.plan; fits = c.requires.fits; words_are = c.requires.words.opening ∙ (sym c.requires.words.count ∙ c.requires.count) }
 
 pub work-requires-clause-may : goal.work-requires-clause-may
 work-requires-clause-may g c = λ k h w d low n.

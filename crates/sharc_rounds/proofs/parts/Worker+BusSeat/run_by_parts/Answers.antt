@@ -1,6 +1,6 @@
 use Rattle.std.proofs.Common.{arith}
 use Rattle.sharc_rounds.proofs.Joining.{have_both, all_may_more, all_fewer}
-use Rattle.sharc_rounds.proofs.worker.Worker.run_by_parts.Goals as goal
+use Rattle.sharc_rounds.proofs.parts.Worker+BusSeat.run_by_parts.Goals as goal
 
 pub run-requires-clause-may : goal.run-requires-clause-may
 run-requires-clause-may g c = all_fewer c.args.code.now c.args.shape.now c.args.limit c.args.bus.now c.alone.result.turns c.parts.left c.parts.self (omega (arith, c.alone.ensures, c.min-turns.ensures)) c.parts.invariant.may

@@ -1,7 +1,8 @@
 use Rattle.std.proofs.Common.{◌≡◌, ◌<◌, List, length, Option, None, get_or, set, refl, sym, ◌∙◌, subst, arith}
+use Rattle.sharc_bus.specs.Bus.{SeatView}
 use Rattle.sharc_rounds.specs.{declared.hand.Hand.Hand, Round.{MayRunAt, HasRunAt, KeepsRoomAt}}
 use Rattle.sharc_rounds.proofs.Dealing.{done_more, left_less, same_length}
-use Rattle.sharc_rounds.proofs.worker.Worker.run.Goals as goal
+use Rattle.sharc_rounds.proofs.worker.Worker+BusSeat.run.Goals as goal
 use Rattle.sharc_lemmas.proofs.Lists.{any_default}
 
 pub run_at-requires-clause-may : goal.run_at-requires-clause-may
@@ -23,7 +24,7 @@ loop-n-preserved g c =
     let low : n < length items = omega (arith, c.loop-n-test.true, c.len-n-end.ensures, c.loop-n.invariant.count) in
     let here : c.index_mut.result.now ≡ get_or first n None =
     c.index_mut.ensures.value ∙ any_default items n c.index_mut.result.now None low ∙ c.loop-n.invariant.left n (omega arith) in
-    let next : List (Option Hand) = set items n x in
+    let next : List (Option (Hand SeatView)) = set items n x in
     let is : set items n x ≡ next = refl in
     let this : P (get_or first n None) x = subst (λ y. P y x) here c.run_at.ensures.ran in
     let kept : K (get_or first n None) x = subst (λ y. K y x) here c.run_at.ensures.room in

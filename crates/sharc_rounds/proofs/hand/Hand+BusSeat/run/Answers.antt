@@ -1,7 +1,7 @@
 use Rattle.std.proofs.Common.{◌≡◌, ◌-◌, ◌≤◌, subst, arith}
 use Rattle.sharc_rounds.specs.{Round.KeepsRoom, Shares.first_turns}
 use Rattle.sharc_rounds.proofs.Joining.{first_few, has_both, room_both, room_of_more, may_rest}
-use Rattle.sharc_rounds.proofs.hand.Hand.run.Goals as goal
+use Rattle.sharc_rounds.proofs.hand.Hand+BusSeat.run.Goals as goal
 
 pub loop-left-init : goal.loop-left-init
 loop-left-init g c =

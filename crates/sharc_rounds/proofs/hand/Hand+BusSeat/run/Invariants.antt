@@ -1,6 +1,6 @@
 use Rattle.std.proofs.Common.{◌-◌, ◌≤◌}
 use Rattle.sharc_rounds.specs.Round.{MayRun, HasRun, KeepsRoom}
-use Rattle.sharc_rounds.proofs.hand.Hand.run.Given as goal
+use Rattle.sharc_rounds.proofs.hand.Hand+BusSeat.run.Given as goal
 
 abbrev pub invariant-loop-left : goal.invariant-loop-left
 invariant-loop-left g l = record {

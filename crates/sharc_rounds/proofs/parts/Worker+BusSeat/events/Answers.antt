@@ -1,6 +1,6 @@
 use Rattle.std.proofs.{Common.{◌≡◌, ◌<◌, None, length, get_or, ap, ◌∙◌, arith}, lemmas.List.Sums.sum_by_more}
 use Rattle.sharc_rounds.specs.Pace.{made_at}
-use Rattle.sharc_rounds.proofs.worker.Worker.events.Goals as goal
+use Rattle.sharc_rounds.proofs.parts.Worker+BusSeat.events.Goals as goal
 use Rattle.sharc_lemmas.proofs.Lists.{any_default}
 
 pub loop-n-preserved : goal.loop-n-preserved

@@ -1,7 +1,7 @@
 use Rattle.std.proofs.Common.{◌≡◌, true, sym, subst}
 use Rattle.sharc_rounds.specs.Round.{Seat, MayTurnAt, HasRun, KeepsRoom, is_on}
 use Rattle.sharc_rounds.proofs.Running.{nobody, no_room}
-use Rattle.sharc_rounds.proofs.hand.Hand.go.Goals as goal
+use Rattle.sharc_rounds.proofs.hand.Hand+BusSeat.go.Goals as goal
 
 pub run_thread-requires-clause-on : goal.run_thread-requires-clause-on
 run_thread-requires-clause-on g c = subst (λ (x : Seat). is_on x ≡ true) c.in-Some.is c.requires.on

@@ -1,11 +1,12 @@
 use Rattle.std.proofs.Common.{◌<◌}
+use Rattle.sharc_bus.specs.Bus.{SeatView}
 use Rattle.sharc_rounds.specs.{declared.worker.Worker.Worker, Round.{MayAllRun, HaveAllRun}}
-use Rattle.sharc_rounds.proofs.worker.Worker.run_by_parts.Given as goal
+use Rattle.sharc_rounds.proofs.parts.Worker+BusSeat.run_by_parts.Given as goal
 
 abbrev pub invariant-parts : goal.invariant-parts
 invariant-parts g l = record {
   may : MayAllRun l.code l.shape l.limit l.bus l.left l.self;
-  ran : (new : Worker) → HaveAllRun l.code l.shape l.limit l.self new → HaveAllRun l.code l.shape l.limit l.fn.self new;
+  ran : (new : Worker SeatView) → HaveAllRun l.code l.shape l.limit l.self new → HaveAllRun l.code l.shape l.limit l.fn.self new;
   some : 0 < l.left;
   part : 0 < l.part;
 }
