@@ -50,22 +50,7 @@ pub fn with_texts(lvalue: Text, lock: Text, op: Op) -> Op
         Op::Spawn(_, _, _, spot) => tell(lvalue, lock, spot),
         Op::Join(_, spot) => tell(lvalue, lock, spot),
         Op::Print(_, spot) => tell(lvalue, lock, spot),
-        Op::Enter
-        | Op::Constant(_, _)
-        | Op::Move(_, _)
-        | Op::Complement(_, _)
-        | Op::IsFalse(_, _)
-        | Op::SameReference(_, _, _)
-        | Op::Skip(_)
-        | Op::SkipIfZero(_, _)
-        | Op::SkipIfNull(_, _)
-        | Op::Jump(_)
-        | Op::BlockEnd
-        | Op::Null(_)
-        | Op::Local(_, _)
-        | Op::MoveReference(_, _)
-        | Op::Pop(_)
-        | Op::Settle(_, _) => {}
+        _ => {}
     }
     made
 }
@@ -106,21 +91,6 @@ pub fn spot_in(op: Op) -> Option<Spot>
         | Op::Spawn(_, _, _, spot)
         | Op::Join(_, spot)
         | Op::Print(_, spot) => Some(spot),
-        Op::Enter
-        | Op::Constant(_, _)
-        | Op::Move(_, _)
-        | Op::Complement(_, _)
-        | Op::IsFalse(_, _)
-        | Op::SameReference(_, _, _)
-        | Op::Skip(_)
-        | Op::SkipIfZero(_, _)
-        | Op::SkipIfNull(_, _)
-        | Op::Jump(_)
-        | Op::BlockEnd
-        | Op::Null(_)
-        | Op::Local(_, _)
-        | Op::MoveReference(_, _)
-        | Op::Pop(_)
-        | Op::Settle(_, _) => None,
+        _ => None,
     }
 }
