@@ -1,7 +1,8 @@
 -- What flattening makes of a typed program spawns functions of the program, waits where it enters a condition, and has
 -- its tables in their ranges.
 use Rattle.std.specs.{Prelude.{◌≡◌, ℕ, ◌<◌, ◌≤◌, true, None, List, [], ◌∷◌, length}, List.AllByRecursion}
-use Rattle.sharc_tree.specs.{Low.IsLow, Measures.{expressions, in_function}, Placed.IsPlaced, Tree.{Expression, identifier}}
+use Rattle.sharc_tree.specs.{Low.IsLow, Measures.{expressions, in_function}, Placed.IsPlaced}
+use Rattle.sharc_tree.specs.Tree.{Expression, identifier}
 use Rattle.sharc_names.specs.Kinds.{is_array}
 use Rattle.sharc_names.specs.declared.fault.Named.TheVariants as named
 use Rattle.sharc_ctype.specs.Reaches.{Spawns}

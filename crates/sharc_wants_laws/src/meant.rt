@@ -1,6 +1,7 @@
 // The laws, each the contract of a function that does nothing.
 
-ghost use Rattle.sharc_wants_laws.specs.{Freeing.{EmptiersTookLast, LastTakersFree, TakenAreBeingTaken}, Held.HeldAreHeldOn};
+ghost use Rattle.sharc_wants_laws.specs.Freeing.{EmptiersTookLast, LastTakersFree, TakenAreBeingTaken};
+ghost use Rattle.sharc_wants_laws.specs.Held.{HeldAreHeldOn};
 
 use sharc_ctype_laws::laws::{
     are_plain, each_names_itself, meets_constraints, meets_statements, one_type,
