@@ -1,5 +1,5 @@
 -- The queue of ports: each is in it once, so there are no more than there are ports.
-use Rattle.sharc_record.proofs.Imports.{◌≡◌, ◌≢◌, ℕ, zero, suc, ◌<◌, ◌≤◌, List, [], ◌∷◌, ◌++◌, length, sym, subst, arith, dite, some, some-injective, some-ne-none, dec_le, ℕ_discrete, get_elem?, IsNew, AreNew, AreBelow}
+use Rattle.sharc_record.proofs.Imports.{◌≡◌, ◌≢◌, ℕ, zero, suc, ◌<◌, ◌≤◌, List, [], ◌∷◌, ◌++◌, length, sym, subst, arith, dite, some, some-ne-none, dec_le, ℕ_discrete, get_elem?, IsNew, AreNew, AreBelow}
 
 pub new_snoc : (m n : ℕ) (ms : List ℕ) → m ≢ n → IsNew m ms → IsNew m (ms ++ n ∷ [])
 new_snoc m n [] apart h = (apart, tt)

@@ -1,48 +1,14 @@
 -- The hands of a round: all may run where a round begins, and what they have made is a round.
-use Rattle.sharc_record.proofs.{Imports.{◌≡◌, ℕ, ◌+◌, ◌%◌, ◌<◌, ◌≤◌, Some, None, List, [], ◌++◌, length, get_or, sym, ap, ◌∙◌, subst, arith, length-map, get_or-map, mod_below, WordEvent, THREADS, Code, Shape, Machine, IsPath, machine_after, events_of_path, made_in, may_go, OneHistory, SharedView, SeatView, AreSeatsOf, lists_of, Hand, Worker, MayQuantumAt, MayRun, HasRun, HasRoom, HasRoomAt, HaveAllRun, hand_at, Seat, MadeQuantum, MadeQuantumAt, MayBegin, MayBeginAt, MadeRound, ThreadView, any_default}, Places.at_place, Dealing.{has_at, has_run}}
+use Rattle.sharc_record.proofs.{Imports.{◌≡◌, ℕ, ◌+◌, ◌%◌, ◌<◌, Some, None, List, [], ◌++◌, length, get_or, sym, ap, ◌∙◌, subst, arith, length-map, get_or-map, mod_below, THREADS, Code, Shape, OneHistory, SharedView, SeatView, AreSeatsOf, lists_of, Hand, Worker, MayRun, HasRun, HasRoomAt, HaveAllRun, hand_at, Seat, MadeQuantumAt, MayBegin, MadeRound, any_default, QUANTUM, QuantumLaws, MayTurnAt}, Places.at_place, Dealing.{has_at, has_run}}
 use Rattle.std.specs.List.{All}
 
-abbrev hand_of : Seat → SeatView → Hand
+abbrev hand_of : Seat → SeatView → Hand SeatView
 hand_of seat port = record { seat = seat; port = port }
 
--- what a quantum made of a thread with room it made of the thread
-one_without : (code : Code) (s : Shape) (limit : ℕ) (old room new : ThreadView) (events : List WordEvent) → HasRoom old room → MadeQuantum code s limit room new events → MadeQuantum code s limit old new events
-one_without code s limit old room new events h q = record {
-  thread = q.thread;
-  founds = q.founds;
-  path = subst (λ (m : Machine). IsPath code s m q.founds) h.machine q.path;
-  machine = q.machine ∙ ap (λ (m : Machine). machine_after code s m q.founds) h.machine;
-  events_are = q.events_are ∙ ap (λ (m : Machine). events_of_path code s m q.founds) h.machine;
-  number = q.number ∙ ap (λ (m : Machine). m.own.number) h.machine;
-  made = q.made ∙ ap (λ n. n + made_in code s room.machine q.founds) h.made ∙ ap (λ (m : Machine). old.made + made_in code s m q.founds) h.machine;
-  within = q.within;
-  some = λ on low. q.some (ap (λ (m : Machine). may_go m.at.state) h.machine ∙ on) (subst (λ n. n < limit) (sym h.made) low);
-}
-
-pub without_room : (code : Code) (s : Shape) (limit : ℕ) (old room new : Seat) (events : List WordEvent) → HasRoomAt old room → MadeQuantumAt code s limit room new events → MadeQuantumAt code s limit old new events
-without_room code s limit (Some old) (Some room) (Some new) events h q = one_without code s limit old room new events h q
-without_room code s limit (Some old) (Some room) None events h q = absurd q
-without_room code s limit (Some old) None new events h q = absurd h
-without_room code s limit None (Some room) new events h q = absurd h
-without_room code s limit None None (Some new) events h q = absurd q
-without_room code s limit None None None events h q = q
-
--- a thread with room may make a quantum
-fits_at : (code : Code) (s : Shape) (limit n number : ℕ) (old room : Seat) → number ≡ n → MayBeginAt code s limit n old → HasRoomAt old room → MayQuantumAt code s limit room number
-fits_at code s limit n number (Some old) (Some room) e may h = record {
-  thread_is = h.thread code s may.thread_is;
-  number_is = e ∙ sym may.number ∙ ap (λ (m : Machine). m.own.number) (sym h.machine);
-  within = subst (λ k. k ≤ limit) (sym h.made) may.within;
-  room = λ on. h.room (ap (λ (m : Machine). may_go m.at.state) (sym h.machine) ∙ on);
-}
-fits_at code s limit n number (Some old) None e may h = absurd h
-fits_at code s limit n number None (Some room) e may h = absurd h
-fits_at code s limit n number None None e may h = tt
-
-module _ (code : Code) (s : Shape) (limit : ℕ) (shared : SharedView) (old seats : List Seat) (ports : List SeatView)
-    (begin : MayBegin code s limit old) (count : length seats ≡ length old) (room : (n : ℕ) → n < length old → HasRoomAt (get_or old n None) (get_or seats n None))
+module _ (laws : QuantumLaws) (code : Code) (s : Shape) (limit : ℕ) (shared : SharedView) (old seats : List Seat) (ports : List SeatView)
+    (begin : MayBegin code s limit old) (count : length seats ≡ length old) (room : (n : ℕ) → n < length old → HasRoomAt QUANTUM (get_or old n None) (get_or seats n None))
     (are : AreSeatsOf shared ports) (as_many : shared.ports ≡ THREADS) (fresh : All (λ (p : SeatView). p.events ≡ []) ports) where
-  pub fit : (n : ℕ) (hand : Hand) → n < THREADS → hand ≡ hand_of (get_or seats n hand.seat) (get_or ports n hand.port) → MayRun code s limit shared hand
+  pub fit : (n : ℕ) (hand : Hand SeatView) → n < THREADS → hand ≡ hand_of (get_or seats n hand.seat) (get_or ports n hand.port) → MayRun code s limit shared hand
   fit n hand low is = subst (MayRun code s limit shared) (sym is) (
       let port : SeatView = get_or ports n hand.port in
       let within : n < length old = omega (arith, low, begin.count) in
@@ -51,8 +17,8 @@ module _ (code : Code) (s : Shape) (limit : ℕ) (shared : SharedView) (old seat
       let here : MayRun code s limit shared (hand_of (get_or seats n hand.seat) port) = record {
         id_is = are.id_is n hand.port there;
         count_is = are.count_is n hand.port there;
-        may = subst (λ (x : Seat). MayQuantumAt code s limit x port.number) same
-            (fits_at code s limit n port.number (get_or old n None) (get_or seats n None) (are.number_is n hand.port there) (begin.each n within) (room n within));
+        may = subst (λ (x : Seat). MayTurnAt code s limit QUANTUM x port.number) same
+            (laws.may code s limit QUANTUM n port.number (get_or old n None) (get_or seats n None) (are.number_is n hand.port there) (begin.each n within) (room n within));
       } in
       here)
 
@@ -88,29 +54,29 @@ module _ (code : Code) (s : Shape) (limit : ℕ) (shared : SharedView) (old seat
           let events : h.events ≡ get_or (lists_of backs) n [] =
           ap (λ es. es ++ h.events) (sym none) ∙ sym h.events_are ∙ sym (get_or-map (λ (p : SeatView). p.events) backs n nobody [] (omega (arith, below, back_count))) in
           subst (MadeQuantumAt code s limit (get_or old n None) (get_or new n None)) events
-          (without_room code s limit (get_or old n None) (get_or seats n None) (get_or new n None) h.events (room n low) h.made);
+          (laws.without_room code s limit QUANTUM (get_or old n None) (get_or seats n None) (get_or new n None) h.events (room n low) h.made);
     }
 
 -- ---- through the workers
-module _ (code : Code) (s : Shape) (limit : ℕ) (count : ℕ) (workers after : List Worker) (seats : List Seat) (ports : List SeatView)
+module _ (code : Code) (s : Shape) (limit : ℕ) (count : ℕ) (workers after : List (Worker SeatView)) (seats : List Seat) (ports : List SeatView)
     (some : 0 < count) (many : length workers ≡ count) (same : length after ≡ length workers)
-    (dealt : (n : ℕ) (d : Worker) (a : Seat) (p : SeatView) → n < THREADS → hand_at workers (n % count) n d ≡ Some (hand_of (get_or seats n a) (get_or ports n p)))
-    (all_ran : (w : ℕ) (d : Worker) → w < length workers → HaveAllRun code s limit (get_or workers w d) (get_or after w d)) where
+    (dealt : (n : ℕ) (d : Worker SeatView) (a : Seat) (p : SeatView) → n < THREADS → hand_at workers (n % count) n d ≡ Some (hand_of (get_or seats n a) (get_or ports n p)))
+    (all_ran : (w : ℕ) (d : Worker SeatView) → w < length workers → HaveAllRun code s limit (get_or workers w d) (get_or after w d)) where
   far : (n : ℕ) → n % count < length workers
   far n = omega (arith, mod_below n count some, many)
 
   as_many_after : length after ≡ count
   as_many_after = same ∙ many
 
-  pub has_hand : (n : ℕ) (d : Worker) (a : Seat) (p : SeatView) → n < THREADS → (hand : Hand) × (hand_at after (n % length after) n d ≡ Some hand)
+  pub has_hand : (n : ℕ) (d : Worker SeatView) (a : Seat) (p : SeatView) → n < THREADS → (hand : Hand SeatView) × (hand_at after (n % length after) n d ≡ Some hand)
   has_hand n d a p low =
-      subst (λ k. (hand : Hand) × (hand_at after (n % k) n d ≡ Some hand)) (sym as_many_after)
+      subst (λ k. (hand : Hand SeatView) × (hand_at after (n % k) n d ≡ Some hand)) (sym as_many_after)
       (has_at code s limit (hand_at workers (n % count) n d) (hand_at after (n % count) n d) (hand_of (get_or seats n a) (get_or ports n p)) (dealt n d a p low) (all_ran (n % count) d (far n) n))
 
   pub through : (new : List Seat) (backs : List SeatView)
-      → ((n : ℕ) (d : Worker) (a : Seat) (p : SeatView) → n < THREADS → hand_at after (n % length after) n d ≡ Some (hand_of (get_or new n a) (get_or backs n p)))
+      → ((n : ℕ) (d : Worker SeatView) (a : Seat) (p : SeatView) → n < THREADS → hand_at after (n % length after) n d ≡ Some (hand_of (get_or new n a) (get_or backs n p)))
       → (n : ℕ) (a : Seat) (p : SeatView) (b : Seat) (q : SeatView) → n < THREADS → HasRun code s limit (hand_of (get_or seats n a) (get_or ports n p)) (hand_of (get_or new n b) (get_or backs n q))
   through new backs gathered n a p b q low =
-      let d : Worker = (at_place workers 0 (omega (arith, some, many))).one in
+      let d : Worker SeatView = (at_place workers 0 (omega (arith, some, many))).one in
       has_run code s limit (hand_at workers (n % count) n d) (hand_at after (n % count) n d) (hand_of (get_or seats n a) (get_or ports n p)) (hand_of (get_or new n b) (get_or backs n q))
       (dealt n d a p low) (subst (λ k. hand_at after (n % k) n d ≡ Some (hand_of (get_or new n b) (get_or backs n q))) as_many_after (gathered n d b q low)) (all_ran (n % count) d (far n) n)

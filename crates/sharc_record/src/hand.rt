@@ -1,10 +1,9 @@
 //! A thread in a round.
 
-ghost use Rattle.std.specs.Prelude.{◌≡◌, ◌≤◌, true, length, Some};
-ghost use Rattle.sharc_word.specs.declared.step.TheConstants.{THREADS as threads};
-ghost use Rattle.sharc_code.specs.Layout.{Fits, words_of};
-ghost use Rattle.sharc_cpu.specs.Rows.{IsPlan};
-ghost use Rattle.sharc_record.specs.Round.{MayQuantum, HasRun, MayRun};
+ghost use Rattle.std.specs.Prelude.{◌≡◌, length, Some};
+ghost use Rattle.sharc_rounds.specs.Round.{AreLent, MayTurn};
+ghost use Rattle.sharc_record.specs.declared.journal.TheConstants.{QUANTUM as quantum};
+ghost use Rattle.sharc_record.specs.Round.{HasRun, MayRun};
 
 use crate::journal::QUANTUM;
 use crate::journaled::journal_laws;
@@ -13,17 +12,9 @@ use crate::seat::JournalSeat;
 use crate::shared::SharedJournal;
 use sharc_code::{Code, Shape};
 use sharc_cpu::{RowPlan, Thread, run_trying};
-use sharc_rounds::{Gate, GatedPort, most_events};
+use sharc_rounds::{Gate, GatedPort, Hand, most_events, quantum_laws};
 use sharc_threads::is_on;
-use sharc_word::place_laws;
 use std::sync::Wait;
-
-/// A place of the table of threads, and its seat at the journal of the round.
-#[derive(Drop)]
-pub(crate) struct Hand {
-    pub(crate) seat: Option<Thread>,
-    pub(crate) port: JournalSeat,
-}
 
 // One quantum of a thread that is neither gone nor stopped.
 fn run_thread<R: Wait, G: Gate>(
@@ -37,17 +28,15 @@ fn run_thread<R: Wait, G: Gate>(
     gate: &G,
     worker: u32,
     limit: u64,
-) -> Hand
-    requires plan { IsPlan code.now plan.now }
-    requires fits { Fits code.now shape.now }
-    requires words { length shared.now.opened.words ≡ words_of shape.now }
+) -> Hand<JournalSeat>
+    requires lent { AreLent code.now plan.now shape.now (length shared.now.opened.words) }
     requires shared { port.id ≡ shared.now.id }
     requires count { port.count ≡ length shared.now.opened.words }
-    requires may { MayQuantum code.now shape.now limit thread port.number }
+    requires may { MayTurn code.now shape.now limit quantum thread port.number }
     ensures { HasRun code.now shape.now limit record { seat = Some thread; port = port } result }
 {
     journal_laws();
-    place_laws();
+    quantum_laws();
     if !is_on(&thread) {
         return Hand {
             seat: Some(thread),
@@ -78,31 +67,27 @@ fn run_thread<R: Wait, G: Gate>(
     }
 }
 
-impl Hand {
-    /// One quantum of the thread, if one is there that is neither gone nor stopped.
-    pub(crate) fn run<R: Wait, G: Gate>(
-        self,
-        rt: &R,
-        code: &Code,
-        plan: &RowPlan,
-        shape: &Shape,
-        shared: &SharedJournal,
-        gate: &G,
-        worker: u32,
-        limit: u64,
-    ) -> Hand
-        requires plan { IsPlan code.now plan.now }
-        requires fits { Fits code.now shape.now }
-        requires words { length shared.now.opened.words ≡ words_of shape.now }
-        requires may { MayRun code.now shape.now limit shared.now self }
-        ensures { HasRun code.now shape.now limit self result }
-    {
-        let Hand { seat, port } = self;
-        match seat {
-            None => Hand { seat: None, port },
-            Some(thread) => run_thread(
-                rt, thread, port, code, plan, shape, shared, gate, worker, limit,
-            ),
-        }
+/// One quantum of the thread, if one is there that is neither gone nor stopped.
+pub(crate) fn run_hand<R: Wait, G: Gate>(
+    rt: &R,
+    hand: Hand<JournalSeat>,
+    code: &Code,
+    plan: &RowPlan,
+    shape: &Shape,
+    shared: &SharedJournal,
+    gate: &G,
+    worker: u32,
+    limit: u64,
+) -> Hand<JournalSeat>
+    requires lent { AreLent code.now plan.now shape.now (length shared.now.opened.words) }
+    requires may { MayRun code.now shape.now limit shared.now hand }
+    ensures { HasRun code.now shape.now limit hand result }
+{
+    let Hand { seat, port } = hand;
+    match seat {
+        None => Hand { seat: None, port },
+        Some(thread) => run_thread(
+            rt, thread, port, code, plan, shape, shared, gate, worker, limit,
+        ),
     }
 }

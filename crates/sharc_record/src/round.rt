@@ -1,19 +1,18 @@
 //! One round.
 
-ghost use Rattle.std.specs.Prelude.{◌≡◌, ◌<◌, ℕ, None, length, IfOk, OnOk, slice_index_or};
-ghost use Rattle.sharc_word.specs.declared.step.TheConstants.{THREADS as threads};
+ghost use Rattle.std.specs.Prelude.{◌≡◌, ◌<◌, length, IfOk};
 ghost use Rattle.sharc_code.specs.Layout.{Fits, words_of};
 ghost use Rattle.sharc_cpu.specs.Rows.{IsPlan};
 ghost use Rattle.sharc_rounds.specs.Round.{MayBegin};
-ghost use Rattle.sharc_record.specs.Round.{HasRoom, HasRoomAt, RecordedRound};
+ghost use Rattle.sharc_record.specs.Round.{RecordedRound};
 
 use crate::journal::{Journal, QUANTUM};
 use crate::shared::SharedJournal;
-use crate::worker::{deal, gather, run_all};
+use crate::worker::run_all;
 use sharc_code::{Code, Shape};
-use sharc_cpu::{RowPlan, Thread};
-use sharc_rounds::{Gate, workers_needed};
-use sharc_threads::{ThreadTable, is_on};
+use sharc_cpu::RowPlan;
+use sharc_rounds::{Gate, deal, gather, quantum_laws, reserve, workers_needed};
+use sharc_threads::ThreadTable;
 use sharc_word::{MemPort, THREADS, WordEvent};
 use std::alloc::{AllocError, Global};
 use std::sync::Wait;
@@ -25,37 +24,6 @@ pub(crate) struct Rounds {
     pub(crate) threads: ThreadTable,
     pub(crate) port: MemPort,
     pub(crate) events: Vec<WordEvent>,
-}
-
-// Makes room for the prints of a quantum, if the thread goes on.
-fn make_room(thread: &mut Thread) -> Result<(), AllocError>
-    ensures { OnOk result (HasRoom thread.old thread.new) }
-{
-    if is_on(thread) {
-        thread.reserve(QUANTUM)?;
-    }
-    Ok(())
-}
-
-fn make_room_at(seat: &mut Option<Thread>) -> Result<(), AllocError>
-    ensures { OnOk result (HasRoomAt seat.old seat.new) }
-{
-    match seat {
-        None => Ok(()),
-        Some(thread) => make_room(thread),
-    }
-}
-
-// Makes room in each thread.
-fn reserve(seats: &mut Vec<Option<Thread>>) -> Result<(), AllocError>
-    ensures count { length seats.new.items ≡ length seats.old.items }
-    ensures each { OnOk result ((n : ℕ) → n < length seats.old.items
-        → HasRoomAt (slice_index_or seats.old.items n None) (slice_index_or seats.new.items n None)) }
-{
-    for n in 0..seats.len() {
-        make_room_at(&mut seats[n])?;
-    }
-    Ok(())
 }
 
 impl Rounds {
@@ -81,13 +49,14 @@ impl Rounds {
         ensures { IfOk result (λ r. RecordedRound code.now shape.now limit self.port r.port self.threads.seats.items
             r.threads.seats.items self.events.items r.events.items) }
     {
+        quantum_laws();
         let Rounds {
             threads,
             port,
             events,
         } = self;
         let ThreadTable { mut seats } = threads;
-        reserve(&mut seats)?;
+        reserve(&mut seats, QUANTUM)?;
         let mut journal = Journal {
             words: port,
             events,

@@ -1,5 +1,12 @@
-use Rattle.sharc_record.proofs.{Imports.{◌≡◌, ◌<◌, ℕ, List, ◌++◌, refl, sym, ap, ◌∙◌, subst, arith, OneHistory, WordEvent, SeatView, lists_of, Journal, hand_at, Seat}, Places.at_place, Dealing.may_at, Rounding.{fit, are_back, round_made, has_hand, through}}
+use Rattle.sharc_record.proofs.{Imports.{◌≡◌, ◌<◌, ℕ, List, ◌++◌, length, refl, sym, ap, ◌∙◌, subst, arith, OneHistory, WordEvent, SeatView, lists_of, Journal, hand_at, Seat}, Places.at_place, Dealing.may_at, Rounding.{fit, are_back, round_made, has_hand, through}}
 use Rattle.sharc_record.proofs.round.Rounds.make.Goals as goal
+
+pub run_all-requires-clause-lent : goal.run_all-requires-clause-lent
+run_all-requires-clause-lent g c = λ k h. record {
+  plan_is = c.requires.plan;
+  fits = c.requires.fits;
+  words_are = ap (λ (j : Journal). length j.words) c.in_ok-shared.ensures.shared.0 ∙ (ap (λ (ws : List ℕ). length ws) c.make_room.ensures.words ∙ c.requires.words);
+}
 
 pub run_all-requires-clause-may : goal.run_all-requires-clause-may
 run_all-requires-clause-may g c = λ k h w d low n.
@@ -8,7 +15,7 @@ run_all-requires-clause-may g c = λ k h w d low n.
     may_at code s c.args.limit c.in_ok-shared.shared (hand_at c.in_ok-workers.workers.items w n d)
     (λ hand is.
     let only = c.in_ok-workers.ensures.only w n d hand (omega (arith, low, c.in_ok-workers.ensures.count)) is in
-    fit code s c.args.limit c.in_ok-shared.shared c.args.self.threads.seats.items c.reserve.new.seats.items c.in_ok-shared.ports.items c.requires.seats c.reserve.ensures.count c.in_ok-reserve.ensures.each
+    fit c.quantum_laws.ensures code s c.args.limit c.in_ok-shared.shared c.args.self.threads.seats.items c.reserve.new.seats.items c.in_ok-shared.ports.items c.requires.seats c.reserve.ensures.count c.in_ok-reserve.ensures.each
     c.in_ok-shared.ensures.seats c.in_ok-shared.ensures.shared.1 c.in_ok-shared.ensures.unbegun n hand only.0 only.1)
 
 pub gather-requires-clause-each : goal.gather-requires-clause-each
@@ -26,7 +33,7 @@ close-port-requires g c =
     let some : 0 < c.workers_needed-count.result = c.workers_needed-count.ensures.some in
     let ran = through code s c.args.limit c.workers_needed-count.result c.in_ok-workers.workers.items c.run_all.new.workers.items c.reserve.new.seats.items c.in_ok-shared.ports.items
     some c.in_ok-workers.ensures.count c.run_all.ensures.count c.in_ok-workers.ensures.each c.run_all.ensures.each c.in_ok-seats.seats.items c.in_ok-seats.ports.items c.in_ok-seats.ensures.each in
-    are_back code s c.args.limit c.in_ok-shared.shared c.args.self.threads.seats.items c.reserve.new.seats.items c.in_ok-shared.ports.items c.requires.seats c.reserve.ensures.count c.in_ok-reserve.ensures.each
+    are_back c.quantum_laws.ensures code s c.args.limit c.in_ok-shared.shared c.args.self.threads.seats.items c.reserve.new.seats.items c.in_ok-shared.ports.items c.requires.seats c.reserve.ensures.count c.in_ok-reserve.ensures.each
     c.in_ok-shared.ensures.seats c.in_ok-shared.ensures.shared.1 c.in_ok-shared.ensures.unbegun c.in_ok-seats.seats.items c.in_ok-seats.ports.items c.in_ok-seats.ensures.seats c.in_ok-seats.ensures.ports ran
 
 pub returns : goal.returns
@@ -44,7 +51,7 @@ returns g c =
     let both : (h : OneHistory c.args.self.port lists now) × (h.history ≡ one.history) =
     subst (λ (xs : List ℕ). (h : OneHistory xs lists now) × (h.history ≡ one.history)) first (record { history = one.history; legal = one.legal; parts = one.parts; words_are = one.words_are }, refl) in
     record {
-      round = round_made code s c.args.limit c.in_ok-shared.shared c.args.self.threads.seats.items c.reserve.new.seats.items c.in_ok-shared.ports.items c.requires.seats c.reserve.ensures.count c.in_ok-reserve.ensures.each
+      round = round_made c.quantum_laws.ensures code s c.args.limit c.in_ok-shared.shared c.args.self.threads.seats.items c.reserve.new.seats.items c.in_ok-shared.ports.items c.requires.seats c.reserve.ensures.count c.in_ok-reserve.ensures.each
           c.in_ok-shared.ensures.seats c.in_ok-shared.ensures.shared.1 c.in_ok-shared.ensures.unbegun c.in_ok-seats.seats.items c.in_ok-seats.ports.items c.in_ok-seats.ensures.seats c.in_ok-seats.ensures.ports ran
           c.args.self.port now both.0;
       appended = one.events_are
