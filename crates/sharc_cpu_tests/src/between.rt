@@ -17,8 +17,8 @@ use std::test::Fail;
 /// and what this word holds after them.
 type Row = (u32, (u32, WordOp), u32, (u32, u64));
 
-// This many turns, and the last answer.
-fn turns(
+/// This many turns, and the last answer.
+pub fn turns(
     code: &Code,
     shape: &Shape,
     thread: &mut Thread,

@@ -72,22 +72,9 @@ fn granules(rt: HostRuntime) -> Result<(), Fail> {
                 1,
             )?;
         }
-        steps(
-            &rt,
-            rt.alloc(),
-            Instr::TestSole(0, 7),
-            *header,
-            (*count, Load),
-            *header,
-        )?;
-        steps(
-            &rt,
-            rt.alloc(),
-            Instr::Give(0, 7),
-            *header,
-            (*count, Load),
-            *header,
-        )?;
+        for instr in &[Instr::TestSole(0, 7), Instr::Give(0, 7)] {
+            steps(&rt, rt.alloc(), *instr, *header, (*count, Load), *header)?;
+        }
         steps(
             &rt,
             rt.alloc(),

@@ -1,6 +1,7 @@
 //! Objects: how they are made, cleared and freed, and the bounds of their elements.
 
 use crate::bench::{Row, Then, walk};
+use crate::script::Ask;
 use sharc_code::Instr;
 use sharc_cpu::Stop;
 use sharc_tree::trap::Trap;
@@ -8,18 +9,21 @@ use sharc_word::WordOp::{Add, Cas, Load, Sub, Swap};
 use std::process::Abort;
 use std::test::Fail;
 
+/// The steps of a New of one cell that takes the first block, at granule 11.
+const FIRST: [Ask; 4] = [
+    (1, Load, 11),
+    (1, Cas(11, 13), 11),
+    (194, Swap(1), 0),
+    (195, Swap(1), 0),
+];
+
 /// New objects from the top, which word 1 holds.
 static MADE: [Row<'static>; 10] = [
     Row {
         body: &[Instr::New(0, 0, 1, 7)],
         turns: 4,
         before: (1, 11, 12),
-        asks: &[
-            (1, Load, 11),
-            (1, Cas(11, 13), 11),
-            (194, Swap(1), 0),
-            (195, Swap(1), 0),
-        ],
+        asks: &FIRST,
         then: Then::Goes((1, 11, 12)),
     },
     // The last block of the arena, and the first that is none.
@@ -75,36 +79,21 @@ static MADE: [Row<'static>; 10] = [
         body: &[Instr::New(0, 0, 1, 7)],
         turns: 4,
         before: (0, 11, 12),
-        asks: &[
-            (1, Load, 11),
-            (1, Cas(11, 13), 11),
-            (194, Swap(1), 0),
-            (195, Swap(1), 0),
-        ],
+        asks: &FIRST,
         then: Then::Goes((0, 11, 12)),
     },
     Row {
         body: &[Instr::New(0, 0, 1, 7)],
         turns: 4,
         before: (i64::MIN, 11, 12),
-        asks: &[
-            (1, Load, 11),
-            (1, Cas(11, 13), 11),
-            (194, Swap(1), 0),
-            (195, Swap(1), 0),
-        ],
+        asks: &FIRST,
         then: Then::Goes((i64::MIN, 11, 12)),
     },
     Row {
         body: &[Instr::New(0, 0, 0, 7)],
         turns: 4,
         before: (1, 11, 12),
-        asks: &[
-            (1, Load, 11),
-            (1, Cas(11, 13), 11),
-            (194, Swap(1), 0),
-            (195, Swap(1), 0),
-        ],
+        asks: &FIRST,
         then: Then::Goes((1, 11, 12)),
     },
     Row {
@@ -153,18 +142,22 @@ fn blocks(rt: HostRuntime) -> Result<(), Fail> {
     Ok(())
 }
 
-/// Blocks that the thread has freed, taken again.
-static AGAIN: [Row<'static>; 8] = [
+/// What the free of the object of granule 11 asks for, which has one cell.
+const FREE: [Ask; 5] = [
+    (195, Load, 1),
+    (109, Load, 19),
+    (109, Swap(4294967296), 19),
+    (194, Swap(0), 1),
+    (195, Swap(0), 1),
+];
+
+/// Blocks that the thread has freed, taken again, with the steps behind that free.
+static AGAIN: [Row<'static>; 6] = [
     Row {
         body: &[Instr::Free(0, 0, 7), Instr::New(1, 0, 1, 8)],
         turns: 9,
         before: (1, 11, 12),
         asks: &[
-            (195, Load, 1),
-            (109, Load, 19),
-            (109, Swap(4294967296), 19),
-            (194, Swap(0), 1),
-            (195, Swap(0), 1),
             (195, Load, 0),
             (196, Swap(0), 9),
             (194, Swap(1), 0),
@@ -177,11 +170,6 @@ static AGAIN: [Row<'static>; 8] = [
         turns: 10,
         before: (1, 11, 12),
         asks: &[
-            (195, Load, 1),
-            (109, Load, 19),
-            (109, Swap(4294967296), 19),
-            (194, Swap(0), 1),
-            (195, Swap(0), 1),
             (195, Load, 0),
             (196, Swap(0), 9),
             (197, Swap(0), 9),
@@ -196,11 +184,6 @@ static AGAIN: [Row<'static>; 8] = [
         turns: 9,
         before: (1, 11, 12),
         asks: &[
-            (195, Load, 1),
-            (109, Load, 19),
-            (109, Swap(4294967296), 19),
-            (194, Swap(0), 1),
-            (195, Swap(0), 1),
             (1, Load, 13),
             (1, Cas(13, 17), 13),
             (198, Swap(1), 0),
@@ -218,11 +201,6 @@ static AGAIN: [Row<'static>; 8] = [
         turns: 13,
         before: (1, 11, 12),
         asks: &[
-            (195, Load, 1),
-            (109, Load, 19),
-            (109, Swap(4294967296), 19),
-            (194, Swap(0), 1),
-            (195, Swap(0), 1),
             (195, Load, 74),
             (196, Swap(0), 9),
             (194, Swap(1), 0),
@@ -243,11 +221,6 @@ static AGAIN: [Row<'static>; 8] = [
         turns: 13,
         before: (1, 11, 12),
         asks: &[
-            (195, Load, 1),
-            (109, Load, 19),
-            (109, Swap(4294967296), 19),
-            (194, Swap(0), 1),
-            (195, Swap(0), 1),
             (195, Load, 75),
             (196, Swap(0), 9),
             (194, Swap(1), 0),
@@ -259,7 +232,30 @@ static AGAIN: [Row<'static>; 8] = [
         ],
         then: Then::Goes((1, 13, 11)),
     },
-    // So is a block that was freed.
+    // The second block is linked to the first.
+    Row {
+        body: &[
+            Instr::Free(0, 0, 7),
+            Instr::Raise(0, 1),
+            Instr::Free(0, 0, 8),
+        ],
+        turns: 11,
+        before: (1, 11, 13),
+        asks: &[
+            (198, Add(1), 1),
+            (199, Load, 1),
+            (111, Load, 0),
+            (111, Swap(4294967296), 0),
+            (198, Swap(0), 2),
+            (199, Swap(11), 1),
+        ],
+        then: Then::Goes((1, 0, 13)),
+    },
+];
+
+/// The same of the last granule, and of the one after it.
+static AGAIN_ELSEWHERE: [Row<'static>; 2] = [
+    // A block that was freed is the next one, where it is a granule.
     Row {
         body: &[Instr::Free(0, 0, 7), Instr::New(1, 0, 1, 8)],
         turns: 7,
@@ -290,35 +286,23 @@ static AGAIN: [Row<'static>; 8] = [
         ],
         then: Then::Goes((1, 0, 11)),
     },
-    // The second block is linked to the first.
-    Row {
-        body: &[
-            Instr::Free(0, 0, 7),
-            Instr::Raise(0, 1),
-            Instr::Free(0, 0, 8),
-        ],
-        turns: 11,
-        before: (1, 11, 13),
-        asks: &[
-            (195, Load, 1),
-            (109, Load, 19),
-            (109, Swap(4294967296), 19),
-            (194, Swap(0), 1),
-            (195, Swap(0), 1),
-            (198, Add(1), 1),
-            (199, Load, 1),
-            (111, Load, 0),
-            (111, Swap(4294967296), 0),
-            (198, Swap(0), 2),
-            (199, Swap(11), 1),
-        ],
-        then: Then::Goes((1, 0, 13)),
-    },
 ];
 
 #[test]
 fn from_the_own_list(rt: HostRuntime) -> Result<(), Fail> {
-    walk(&rt, rt.alloc(), &AGAIN)
+    for row in &AGAIN {
+        let mut asks = FREE.to_vec(rt.alloc())?;
+        asks.extend_from_slice(row.asks)?;
+        let row = Row {
+            body: row.body,
+            turns: row.turns,
+            before: row.before,
+            asks: asks.as_slice(),
+            then: row.then,
+        };
+        walk(&rt, rt.alloc(), &[row])?;
+    }
+    walk(&rt, rt.alloc(), &AGAIN_ELSEWHERE)
 }
 
 /// Clears of the object of granule 11, whose data granules have the shadow words from 109 on.

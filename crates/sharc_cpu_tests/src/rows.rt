@@ -4,6 +4,7 @@ ghost use Rattle.std.specs.Prelude.{◌≡◌, length, IfOk};
 ghost use Rattle.sharc_code.specs.Layout.{Fits, words_of};
 ghost use Rattle.sharc_cpu.specs.{Rows.IsPlan, Thread.IsThread};
 
+use crate::between::turns;
 use crate::code::{code, shape};
 use sharc_code::Instr::{
     ChkHeld, ChkLock, ChkNotHeld, ChkNull, ChkRead, ChkRoom, ChkWidth, ChkWrite, ComputeInt,
@@ -41,24 +42,6 @@ fn by_rows(
     let limit = thread.made().saturating_add(1000);
     thread.reserve(count)?;
     Ok(run_trying(code, Some(plan), shape, thread, port, count, limit, 0))
-}
-
-// One turn more, and the answer.
-fn one_turn(
-    code: &Code,
-    shape: &Shape,
-    thread: &mut Thread,
-    port: &mut MemPort,
-) -> Result<Pause, AllocError>
-    requires fits { Fits code.now shape.now }
-    requires thread { IsThread code.now shape.now thread.old }
-    requires words { length port.old ≡ words_of shape.now }
-    ensures thread { IsThread code.now shape.now thread.new }
-    ensures words { length port.new ≡ words_of shape.now }
-{
-    let limit = thread.made().saturating_add(1000);
-    thread.reserve(1)?;
-    Ok(run_quantum(code, shape, thread, port, 1, limit))
 }
 
 // Whether both threads show the same, but for their notes.
@@ -127,7 +110,7 @@ fn walk(
     let mut port = words(alloc, &code, &shape, written)?;
     let mut last = Pause::Ran;
     for turn in 0..TURNS {
-        last = one_turn(&code, &shape, &mut thread, &mut port)?;
+        last = turns(&code, &shape, &mut thread, &mut port, 1)?;
         let mut other = Thread::new(alloc, &code, &shape, THREAD)?;
         let mut there = words(alloc, &code, &shape, written)?;
         let answer = by_rows(&code, &plan, &shape, &mut other, &mut there, turn + 1)?;
