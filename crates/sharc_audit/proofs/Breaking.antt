@@ -8,13 +8,14 @@ pub record InFront (R before : List SourceEvent) (e : SourceEvent) : Type 0 wher
 
 pub split_last : (R : List SourceEvent) (x : SourceEvent) (before : List SourceEvent) (e : SourceEvent) (after : List SourceEvent) → R ++ x ∷ [] ≡ before ++ e ∷ after → ((before ≡ R) × (e ≡ x)) ⊎ InFront R before e
 split_last [] x [] e after h = inl (refl, cc)
+split_last [] x (b ∷ []) e after h = absurd (cc)
+split_last [] x (b ∷ (c ∷ before)) e after h = absurd (cc)
 split_last (r ∷ R) x [] e after h = let same : r ≡ e = cc in inr (record { after = R; stands = ap (λ z. z ∷ R) same })
 split_last (r ∷ R) x (b ∷ before) e after h = let same : r ≡ b = cc in let tails : R ++ x ∷ [] ≡ before ++ e ∷ after = cc in longer same (split_last R x before e after tails)
   where
     longer : {R before : List SourceEvent} {r b e x : SourceEvent} → r ≡ b → ((before ≡ R) × (e ≡ x)) ⊎ InFront R before e → (((b ∷ before) ≡ r ∷ R) × (e ≡ x)) ⊎ InFront (r ∷ R) (b ∷ before) e
     longer {R} {before} {r} {b} {e} same (inl (h, k)) = inl (ap (λ z. z ∷ before) (sym same) ∙ ap (λ l. r ∷ l) h, k)
     longer {R} {before} {r} {b} {e} same (inr f) = inr (record { after = f.after; stands = ap (λ z. z ∷ R) same ∙ ap (λ l. b ∷ l) f.stands })
-split_last [] x _ e after h = absurd (cc)
 
 module _ (laws : RuleLaws) (R : List SourceEvent) (e : SourceEvent) where
   one_more : (rule : Rule) → Unbroken rule Return R → breaks_by rule Return R e ≡ false → Unbroken rule Return (R ++ e ∷ [])
