@@ -1,5 +1,6 @@
 -- Code that is laid out overwrites no reference and names its mutexes, as the code does whose texts are given.
-use Rattle.sharc_compile_laws.proofs.{Imports.{◌≡◌, inl, inr, ℕ, zero, suc, ◌+◌, ◌-◌, ◌<◌, Bool, List, [], ◌∷◌, length, Some, refl, ap, sym, ◌∙◌, subst, arith, slice_get, slice_index_or, Row, Parameter, Text, no_function, GlobalCells, PlaceMode, Cell, Resolution, functions_in, Assignment, Op, Flat, At, function_of, cell_at, lock_is_null, flat_of, Spot, rows_of, flattened, function_code, AreRows, IsFlattened, names_of, told_by, with_texts, AreLaid, AreNamed, Lays, globals_of, Function, Slots, Fits, Enters, Calls, Resumes, Leaves, Level, Takes, IsEntry, IsLevel, IsBeside, LockStands, MadeIsLevel, FlattenedLocksStand, MadeLocksStand, same_some, none_some}, Ties.{Ties, Next, Needs}, Traced.{IsTraced, stand, flattened_is_traced}, Program.flattened_is_level}
+use Rattle.sharc_compile_laws.proofs.{Imports.{◌≡◌, inl, inr, ℕ, zero, suc, ◌+◌, ◌-◌, ◌<◌, Bool, List, [], ◌∷◌, length, Some, refl, ap, sym, ◌∙◌, subst, arith, slice_get, slice_index_or, Row, Parameter, Text, no_function, GlobalCells, PlaceMode, Cell, Resolution, functions_in, Assignment, Op, Flat, At, function_of, cell_at, lock_is_null, flat_of, Spot, flattened, IsFlattened, names_of, told_by, with_texts, AreLaid, AreNamed, Lays, globals_of, Slots, Fits, Enters, Calls, Resumes, Leaves, Level, Takes, IsEntry, IsLevel, IsBeside, LockStands, MadeIsLevel, FlattenedLocksStand, MadeLocksStand, same_some, none_some}, Ties.{Ties, Next, Needs}, Traced.{IsTraced, stand, flattened_is_traced}, Program.flattened_is_level}
+use Rattle.sharc_flat_lemmas.proofs.Functions.{are_rows}
 
 -- ---- lines
 -- a line that is made is one that is given, with other texts
@@ -104,10 +105,6 @@ laid_is_level r bytes names told made h l =
     }
 
 -- ---- the code as it is defined
-are_rows : (m : Assignment) (globals : List GlobalCells) (pc : ℕ) (fs : List Function) → AreRows m globals pc fs (rows_of m globals pc fs)
-are_rows m globals pc [] = refl
-are_rows m globals pc (f ∷ rest) = (record { entry = refl; parameter = refl; site = refl; ints = refl; refs = refl }, are_rows m globals (pc + length (function_code m globals pc f)) rest)
-
 pub is_flattened : (m : Assignment) (globals : List GlobalCells) → IsFlattened m (flattened m globals)
 is_flattened m globals = record { lines = refl; functions = are_rows m globals 0 (functions_in m.typed.program.items) }
 
