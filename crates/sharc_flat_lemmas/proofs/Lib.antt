@@ -1,2 +1,3 @@
 pub mod Flow
 pub mod Functions
+pub mod Laid
