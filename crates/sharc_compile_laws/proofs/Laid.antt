@@ -1,47 +1,14 @@
 -- Code that is laid out overwrites no reference and names its mutexes, as the code does whose texts are given.
-use Rattle.sharc_compile_laws.proofs.{Imports.{◌≡◌, inl, inr, ℕ, zero, suc, ◌+◌, ◌-◌, ◌<◌, Bool, List, [], ◌∷◌, length, Some, refl, ap, sym, ◌∙◌, subst, arith, slice_get, slice_index_or, Row, Parameter, Text, no_function, GlobalCells, PlaceMode, Cell, Resolution, functions_in, Assignment, Op, Flat, At, function_of, cell_at, lock_is_null, flat_of, Spot, rows_of, flattened, function_code, AreRows, IsFlattened, names_of, told_by, with_texts, AreLaid, AreNamed, Lays, globals_of, Function, Slots, Fits, Enters, Calls, Resumes, Leaves, Level, Takes, IsEntry, IsLevel, IsBeside, LockStands, MadeIsLevel, FlattenedLocksStand, MadeLocksStand, same_some, none_some}, Ties.{Ties, Next, Needs}, Traced.{IsTraced, stand, flattened_is_traced}, Program.flattened_is_level}
-
--- ---- lines
--- a line that is made is one that is given, with other texts
-pub record Told (told : List Op) (n : ℕ) (p : Op) : Type 0 where
-  pub line : Op
-  pub at : slice_get told n ≡ Some line
-  pub lvalue : Text
-  pub lock : Text
-  pub is : p ≡ with_texts lvalue lock line
-
-pub told_at : (r : Resolution) (bytes : List ℕ) (os ps : List Op) → AreLaid r bytes os ps → (n : ℕ) (p : Op) → slice_get ps n ≡ Some p → Told os n p
-told_at r bytes [] [] h n p at = absurd (none_some p at)
-told_at r bytes [] (q ∷ ps) h n p at = absurd h
-told_at r bytes (o ∷ os) [] h n p at = absurd h
-told_at r bytes (o ∷ os) (q ∷ ps) h zero p at = record { line = o; at = refl; lvalue = h.0.lvalue; lock = h.0.lock; is = sym (same_some q p at) ∙ h.0.is }
-told_at r bytes (o ∷ os) (q ∷ ps) h (suc n) p at = let w = told_at r bytes os ps h.1 n p at in record { line = w.line; at = w.at; lvalue = w.lvalue; lock = w.lock; is = w.is }
-
-pub lines_many : (r : Resolution) (bytes : List ℕ) (os ps : List Op) → AreLaid r bytes os ps → length os ≡ length ps
-lines_many r bytes [] [] h = refl
-lines_many r bytes [] (q ∷ ps) h = absurd h
-lines_many r bytes (o ∷ os) [] h = absurd h
-lines_many r bytes (o ∷ os) (q ∷ ps) h = ap suc (lines_many r bytes os ps h.1)
+use Rattle.sharc_compile_laws.proofs.{Imports.{◌≡◌, inl, inr, ℕ, ◌+◌, ◌-◌, ◌<◌, Bool, List, length, refl, ap, sym, ◌∙◌, subst, arith, slice_index_or, Row, Parameter, Text, no_function, GlobalCells, PlaceMode, Cell, Resolution, functions_in, Assignment, Op, Flat, At, function_of, cell_at, lock_is_null, flat_of, Spot, flattened, IsFlattened, names_of, told_by, with_texts, AreNamed, Lays, globals_of, Slots, Fits, Enters, Calls, Resumes, Leaves, Level, Takes, IsEntry, IsLevel, IsBeside, LockStands, MadeIsLevel, FlattenedLocksStand, MadeLocksStand}, Ties.{Ties, Next, Needs}, Traced.{IsTraced, stand, flattened_is_traced}, Program.flattened_is_level}
+use Rattle.sharc_flat_lemmas.proofs.{Functions.are_rows, Laid.{lines_many, rows_many, rows_same, told_at}}
 
 -- ---- rows
-pub rows_many : (bytes : List ℕ) (xs ys : List Row) (ns : List (List ℕ)) → AreNamed bytes xs ns ys → length xs ≡ length ys
-rows_many bytes [] [] [] h = refl
-rows_many bytes [] (y ∷ ys) [] h = absurd h
-rows_many bytes (x ∷ xs) [] [] h = absurd h
-rows_many bytes (x ∷ xs) (y ∷ ys) (n ∷ ns) h = ap suc (rows_many bytes xs ys ns h.1)
-rows_many bytes _ _ _ h = absurd h
+record SameRow (x y : Row) : Type 0 where
+  entry : y.entry ≡ x.entry
+  parameter : y.parameter ≡ x.parameter
 
-pub record SameRow (x y : Row) : Type 0 where
-  pub entry : y.entry ≡ x.entry
-  pub parameter : y.parameter ≡ x.parameter
-
-pub rows_same : (bytes : List ℕ) (xs ys : List Row) (ns : List (List ℕ)) → AreNamed bytes xs ns ys → (k : ℕ) → SameRow (slice_index_or xs k no_function) (slice_index_or ys k no_function)
-rows_same bytes [] [] [] h k = record { entry = refl; parameter = refl }
-rows_same bytes [] (y ∷ ys) [] h k = absurd h
-rows_same bytes (x ∷ xs) [] [] h k = absurd h
-rows_same bytes (x ∷ xs) (y ∷ ys) (n ∷ ns) h zero = record { entry = ap (λ (z : Row). z.entry) h.0.is; parameter = ap (λ (z : Row). z.parameter) h.0.is }
-rows_same bytes (x ∷ xs) (y ∷ ys) (n ∷ ns) h (suc k) = rows_same bytes xs ys ns h.1 k
-rows_same bytes _ _ _ h k = absurd h
+same_rows : (bytes : List ℕ) (xs ys : List Row) (ns : List (List ℕ)) → AreNamed bytes xs ns ys → (k : ℕ) → SameRow (slice_index_or xs k no_function) (slice_index_or ys k no_function)
+same_rows bytes xs ys ns h k = record { entry = rows_same (λ row. row.entry) (λ row name. refl) bytes xs ns ys h k; parameter = rows_same (λ row. row.parameter) (λ row name. refl) bytes xs ns ys h k }
 
 -- ---- what is level is so with its texts laid out
 module _ (a b : Flat) (lines : length a.lines ≡ length b.lines) (rows : length a.functions ≡ length b.functions) (same : (k : ℕ) → SameRow (function_of a k) (function_of b k)) (owner : ℕ → ℕ) (gives : ℕ → Bool) (slots : ℕ → Slots) where
@@ -91,8 +58,8 @@ module _ (a b : Flat) (lines : length a.lines ≡ length b.lines) (rows : length
 laid_is_level : (r : Resolution) (bytes : List ℕ) (names : List (List ℕ)) (told made : Flat) → Lays r bytes names told made → IsLevel told → IsLevel made
 laid_is_level r bytes names told made h l =
     let lines = lines_many r bytes told.lines made.lines h.lines in
-    let rows = rows_many bytes told.functions made.functions names h.functions in
-    let same : (k : ℕ) → SameRow (function_of told k) (function_of made k) = rows_same bytes told.functions made.functions names h.functions in
+    let rows = rows_many bytes told.functions names made.functions h.functions in
+    let same : (k : ℕ) → SameRow (function_of told k) (function_of made k) = same_rows bytes told.functions made.functions names h.functions in
     record {
       owner = l.owner;
       gives = l.gives;
@@ -104,10 +71,6 @@ laid_is_level r bytes names told made h l =
     }
 
 -- ---- the code as it is defined
-are_rows : (m : Assignment) (globals : List GlobalCells) (pc : ℕ) (fs : List Function) → AreRows m globals pc fs (rows_of m globals pc fs)
-are_rows m globals pc [] = refl
-are_rows m globals pc (f ∷ rest) = (record { entry = refl; parameter = refl; site = refl; ints = refl; refs = refl }, are_rows m globals (pc + length (function_code m globals pc f)) rest)
-
 pub is_flattened : (m : Assignment) (globals : List GlobalCells) → IsFlattened m (flattened m globals)
 is_flattened m globals = record { lines = refl; functions = are_rows m globals 0 (functions_in m.typed.program.items) }
 
@@ -141,7 +104,7 @@ module _ (a b : Flat) (globals : b.globals ≡ a.globals) (same : (k : ℕ) → 
 laid_is_traced : (r : Resolution) (bytes : List ℕ) (names : List (List ℕ)) (told made : Flat) → Lays r bytes names told made → IsTraced told → IsTraced made
 laid_is_traced r bytes names told made h t =
     let lines = lines_many r bytes told.lines made.lines h.lines in
-    let same : (k : ℕ) → SameRow (function_of told k) (function_of made k) = rows_same bytes told.functions made.functions names h.functions in
+    let same : (k : ℕ) → SameRow (function_of told k) (function_of made k) = same_rows bytes told.functions made.functions names h.functions in
     record {
       table = t.table;
       last = λ q le. t.last q (omega (arith, le, lines));

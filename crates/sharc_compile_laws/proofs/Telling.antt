@@ -1,5 +1,7 @@
 -- What the threads of a run report, among the events of all threads.
-use Rattle.sharc_compile_laws.proofs.Imports.{◌≡◌, ℕ, ℤ, zero, suc, ◌+◌, ◌<◌, inl, inr, ⊎_elim, Bool, true, false, cond, List, [], ◌∷◌, ◌++◌, length, map, reverse, refl, sym, ap, ◌∙◌, subst, arith, slice_get, nat_tests, append-nil, reverse-reverse, filter-append, ◌==◌, nat_eq, filter, slice_index_or, SourceEvent, Function, function_at, functions_in, Assignment, events_of, is_of, asks, IsNamedAt, answers_of, by, Code, Row, GlobalCells, no_function, Said, said_by, Erase, FlatCode, flat_of, function_code, rows_of, names_of, Flattens, AreNamed, globals_of, entered_at, place, dropped, begins, program_of, told_in, IsCodeOf, RunsFollowSource, FollowsSource, TellsIn, ThreadsTell, reverse_cons}
+use Rattle.sharc_compile_laws.proofs.Imports.{◌≡◌, ℕ, ℤ, ◌+◌, ◌<◌, inl, inr, ⊎_elim, Bool, true, false, cond, List, [], ◌∷◌, ◌++◌, length, map, reverse, refl, sym, ap, ◌∙◌, subst, arith, slice_get, nat_tests, append-nil, reverse-reverse, filter-append, ◌==◌, nat_eq, filter, slice_index_or, SourceEvent, function_at, functions_in, Assignment, events_of, is_of, asks, IsNamedAt, answers_of, by, Code, Row, no_function, Said, said_by, Erase, FlatCode, flat_of, rows_of, names_of, Flattens, globals_of, entered_at, place, dropped, begins, program_of, told_in, IsCodeOf, RunsFollowSource, FollowsSource, TellsIn, ThreadsTell, reverse_cons}
+use Rattle.sharc_flat_lemmas.proofs.{Functions.{are_rows, row_of, rows_as_many}, Laid.{mapped_same, rows_many, rows_same}}
+use Rattle.sharc_lemmas.proofs.{Lists.some_there, Numbers.same_test}
 
 -- ---- lists
 filter_reverse : (f : SourceEvent → Bool) (xs : List SourceEvent) → filter f (reverse xs) ≡ reverse (filter f xs)
@@ -10,27 +12,6 @@ filter_reverse f (x ∷ xs) =
     by : (b : Bool) → reverse (filter f xs) ++ cond b (x ∷ []) [] ≡ reverse (cond b (x ∷ filter f xs) (filter f xs))
     by true = sym (reverse_cons x (filter f xs))
     by false = append-nil (reverse (filter f xs))
-
-same_test : (a b : ℕ) → (a == b) ≡ nat_eq b a
-same_test a b = by (a == b) (nat_eq b a) refl refl
-  where
-    equal : (a == b) ≡ true → a ≡ b
-    equal e = grind (arith, nat_tests)
-
-    other : (a == b) ≡ false → a ≡ b → ⊥
-    other e q = grind (arith, nat_tests)
-
-    equal_too : nat_eq b a ≡ true → b ≡ a
-    equal_too e = grind (arith, nat_tests)
-
-    other_too : nat_eq b a ≡ false → b ≡ a → ⊥
-    other_too e q = grind (arith, nat_tests)
-
-    by : (x y : Bool) → (a == b) ≡ x → nat_eq b a ≡ y → x ≡ y
-    by true true p q = refl
-    by false false p q = refl
-    by true false p q = absurd (other_too q (sym (equal p)))
-    by false true p q = absurd (other p (sym (equal_too q)))
 
 -- ---- whose events they are
 abbrev AreOf : ℕ → List SourceEvent → Type 0
@@ -103,27 +84,6 @@ split t (x ∷ R) e es q = by (is_of t x) refl q (split t R e es)
         }
 
 -- ---- the site of a Started is the name of its function
-entered_site : (pl : ℕ → ℕ) (rows : List Row) (n : ℕ) → n < length rows → (slice_index_or (map (entered_at pl) rows) n no_function).site ≡ (slice_index_or rows n no_function).site
-entered_site pl [] n lt = absurd (omega arith)
-entered_site pl (x ∷ rows) zero lt = refl
-entered_site pl (x ∷ rows) (suc n) lt = entered_site pl rows n (omega arith)
-
-named_count : (bytes : List ℕ) (told : List Row) (names : List (List ℕ)) (made : List Row) → AreNamed bytes told names made → length made ≡ length told
-named_count bytes [] [] [] h = refl
-named_count bytes (x ∷ xs) (n ∷ ns) (y ∷ ys) h = ap suc (named_count bytes xs ns ys h.1)
-named_count bytes _ _ _ h = absurd h
-
-named_site : (bytes : List ℕ) (told : List Row) (names : List (List ℕ)) (made : List Row) (n : ℕ) → AreNamed bytes told names made → (slice_index_or made n no_function).site ≡ (slice_index_or told n no_function).site
-named_site bytes [] [] [] n h = refl
-named_site bytes (x ∷ xs) (k ∷ ks) (y ∷ ys) zero h = ap (λ (r : Row). r.site) h.0.is
-named_site bytes (x ∷ xs) (k ∷ ks) (y ∷ ys) (suc n) h = named_site bytes xs ks ys n h.1
-named_site bytes _ _ _ n h = absurd h
-
-row_site : (m : Assignment) (globals : List GlobalCells) (pc : ℕ) (fs : List Function) (n : ℕ) → n < length (rows_of m globals pc fs) → IsNamedAt (slice_get fs n) (slice_index_or (rows_of m globals pc fs) n no_function).site
-row_site m globals pc [] n lt = absurd (omega arith)
-row_site m globals pc (f ∷ rest) zero lt = refl
-row_site m globals pc (f ∷ rest) (suc n) lt = row_site m globals (pc + length (function_code m globals pc f)) rest n (omega arith)
-
 -- the Started of an existing function is at its name
 pub started_at_name : (m : Assignment) (flat : FlatCode) → Flattens m flat → (code : Code) → (is : IsCodeOf flat code) → (f : ℕ) (argument : ℤ) → f < length flat.functions.items
     → IsNamedAt (function_at m.typed f) (begins (program_of is.g) f argument).site
@@ -131,12 +91,14 @@ started_at_name m flat made code is f argument known =
     let fs = functions_in m.typed.program.items in
     let gs = globals_of m.typed in
     let pl = place (dropped (flat_of flat)) flat.lines.items in
-    let count = named_count flat.texts.items (rows_of m gs 0 fs) (names_of fs) flat.functions.items made.lays.functions in
-    let site : (begins (program_of is.g) f argument).site ≡ (slice_index_or (rows_of m gs 0 fs) f no_function).site =
-    ap (λ (rows : List Row). (slice_index_or rows f no_function).site) is.made.functions ∙ entered_site pl flat.functions.items f known
-    ∙ named_site flat.texts.items (rows_of m gs 0 fs) (names_of fs) flat.functions.items f made.lays.functions
+    let rows = rows_of m gs 0 fs in
+    let are = are_rows m gs 0 fs in
+    let x = some_there fs f (omega (arith, known, rows_as_many m gs 0 fs rows are, rows_many flat.texts.items rows (names_of fs) flat.functions.items made.lays.functions)) in
+    let site : (begins (program_of is.g) f argument).site ≡ (slice_index_or rows f no_function).site =
+    ap (λ (rows : List Row). (slice_index_or rows f no_function).site) is.made.functions ∙ mapped_same (λ row. row.site) (entered_at pl) (λ row. refl) flat.functions.items f
+    ∙ rows_same (λ row. row.site) (λ row name. refl) flat.texts.items rows (names_of fs) flat.functions.items made.lays.functions f
     in
-    subst (IsNamedAt (slice_get fs f)) (sym site) (row_site m gs 0 fs f (omega arith))
+    subst (IsNamedAt (slice_get fs f)) (sym site) (subst (λ o. IsNamedAt o (slice_index_or rows f no_function).site) (sym x.1) (row_of m gs 0 fs rows are f x.0 x.1).site)
 
 -- ---- all together
 pub answers_by : (t : ℕ) (es : List SourceEvent) → answers_of (map (by t) es) ≡ answers_of es

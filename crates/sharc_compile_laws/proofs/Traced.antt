@@ -1,7 +1,8 @@
 -- The code of statements and of functions: nothing is known of integer registers where a statement begins and ends.
-use Rattle.sharc_compile_laws.proofs.{Imports.{pos, slice_get, slice_index_or, ◌≡◌, ℕ, zero, suc, ◌+◌, ◌<◌, ◌≤◌, Bool, true, false, cond, List, [], ◌∷◌, ◌++◌, length, take, drop, refl, ap, sym, ◌∙◌, subst, arith, length-append, get_or_past, Option, Some, None, ⊎_elim, cases_lt, Site, Declaration, Jump, Break, Continue, span_of, Expression, Right, value, malloc, Simple, assign, does_call, Local, First, nothing, declares, does, Statement, empty, block, declare, simple, jump, return, if_then, if_then_else, while, for, Statements, no_statements, statement, Function, Kind, declared_kind, Row, GlobalCells, no_function, functions_in, pointed, Assignment, written, row_at, declared_row, Sharing, private, is_reference, Op, Flat, function_of, Slot, Context, ref_count, at_site, pops, ends_from, leaves, variable, base_width, index_width, width_code, kind_of, is_ref, target_of, mode_of, guard_of, lvalue_in, drop_code, expression_code, place_code, elements_code, right_code, simple_code, with_variable, ints_of, refs_of, zero_code, declared_lvalue, initial_code, local_code, first_code, behind_first, step_code, test_code, turn_code, Around, opened, looping, jump_code, result_code, return_code, body_at, turns_code, behind_statement, behind_statements, statement_code, statements_code, in_function, around_body, function_code, functions_code, AreRows, IsFlattened, agrees_all, agrees_right, Agrees, LocksStand}, Ties.{Ties, Fit, fit_same, nothing_in, Needs}, Tied.locks_stand, Tying.{Low, low_place, Piece, Entries, P, tied, then_do, one, R, both, none, plain, sets, moves, pops as pops_one, truths, widths, enters, expressions, places, stores, T}}
-use Rattle.sharc_flat_lemmas.proofs.Flow.{joins}
+use Rattle.sharc_compile_laws.proofs.{Imports.{append_assoc, pos, slice_get, slice_index_or, ◌≡◌, ℕ, ◌+◌, ◌≤◌, Bool, true, false, cond, List, [], ◌∷◌, ◌++◌, length, take, drop, refl, ap, sym, ◌∙◌, subst, arith, length-append, get_or_past, Option, Some, None, ⊎_elim, cases_lt, Site, Declaration, Jump, Break, Continue, span_of, Expression, Right, value, malloc, Simple, assign, does_call, Local, First, nothing, declares, does, Statement, empty, block, declare, simple, jump, return, if_then, if_then_else, while, for, Statements, no_statements, statement, Function, Kind, declared_kind, Row, GlobalCells, no_function, functions_in, pointed, Assignment, written, row_at, declared_row, Sharing, private, is_reference, Op, Flat, function_of, Slot, Context, ref_count, at_site, pops, ends_from, leaves, variable, base_width, index_width, width_code, kind_of, is_ref, target_of, mode_of, guard_of, lvalue_in, drop_code, expression_code, place_code, elements_code, right_code, simple_code, with_variable, ints_of, refs_of, zero_code, declared_lvalue, initial_code, local_code, first_code, behind_first, step_code, test_code, turn_code, Around, opened, looping, jump_code, result_code, return_code, body_at, turns_code, behind_statement, behind_statements, statement_code, statements_code, in_function, around_body, function_code, functions_code, IsFlattened, agrees_all, Agrees, LocksStand}, Ties.{Ties, Fit, fit_same, nothing_in, Needs}, Tied.locks_stand, Tying.{Low, low_place, Piece, Entries, P, tied, then_do, one, R, both, none, plain, sets, moves, pops as pops_one, truths, widths, enters, expressions, places, stores, T}}
+use Rattle.sharc_flat_lemmas.proofs.Functions.{begin_of, row_of, rows_as_many, whole}
 use Rattle.sharc_flat_lemmas.proofs.Flow as flow
+use Rattle.sharc_lemmas.proofs.Lists.{some_there}
 
 -- a context of the same globals
 after_same : (c : Context) (globals : List GlobalCells) (x : Statement) → c.globals ≡ globals → (behind_statement c x).globals ≡ globals
@@ -238,60 +239,29 @@ module _ (flat : Flat) where
   abbrev Z : (ℕ → Ties) → Type 0
   Z table = Entries flat table × (table 0 ≡ [])
 
-  a_function : (m : Assignment) (pc : ℕ) (fn : Function) → S Z pc (function_code m flat.globals pc fn)
+  a_function : (m : Assignment) (pc : ℕ) (fn : Function) → flow.Part (Needs flat) (Fit []) Z pc (function_code m flat.globals pc fn)
   a_function m pc fn =
       let c = in_function m flat.globals fn in
       let a = around_body fn in
       let code = statements_code c a (pc + 1) fn.statements in
       let Y = ends_from (behind_statements c fn.statements).scope 0 in
-      let r = is_reference (declared_kind fn.result) in
-      let R1 = zero_code r 0 0 ++ Op.Return (at_site fn.body.last) ∷ [] in
-      flow.known (tied flat) (L a) Z [] pc (function_code m flat.globals pc fn) [] (λ table d. (d.0, d.1, d.1))
-      (entered a pc (code ++ (Y ++ R1))
-      (then_at (L a) (pc + 1) code (Y ++ R1) (all_statements c refl a (pc + 1) fn.statements)
-      (lift_l a (Y ++ R1) (then_x Y R1 (ends_x (behind_statements c fn.statements).scope 0) (then_x (zero_code r 0 0) (Op.Return (at_site fn.body.last) ∷ []) (zero_x r 0 0) (return_x fn.body.last))) (pc + 1 + length code))))
+      let W = zero_code (is_reference (declared_kind fn.result)) 0 0 in
+      let R1 = Op.Return (at_site fn.body.last) ∷ [] in
+      let F = Op.Enter ∷ (code ++ (Y ++ W)) in
+      let is : function_code m flat.globals pc fn ≡ F ++ R1 = ap (λ l. Op.Enter ∷ l) (sym (append_assoc code (Y ++ W) R1 ∙ ap (λ l. code ++ l) (append_assoc Y W R1))) in
+      subst (flow.Part (Needs flat) (Fit []) Z pc) (sym is)
+      (flow.ends (tied flat) Z [] [] pc F (Op.Return (at_site fn.body.last))
+      (flow.known (tied flat) (L a) Z [] pc F [] (λ table d. (d.0, d.1, d.1))
+      (entered a pc (code ++ (Y ++ W))
+      (then_at (L a) (pc + 1) code (Y ++ W) (all_statements c refl a (pc + 1) fn.statements)
+      (lift_l a (Y ++ W) (then_x Y W (ends_x (behind_statements c fn.statements).scope 0) (zero_x (is_reference (declared_kind fn.result)) 0 0)) (pc + 1 + length code)))))
+      (λ q low high. tt) (λ table. record { next = tt; stands = λ m h. tt }))
 
-  module _ (m : Assignment) where
-    abbrev G : List GlobalCells
-    G = flat.globals
-
-    begin_of : ℕ → List Function → ℕ → ℕ
-    begin_of pc [] d = pc
-    begin_of pc (fn ∷ rest) zero = pc
-    begin_of pc (fn ∷ rest) (suc d) = begin_of (pc + length (function_code m G pc fn)) rest d
-
-    -- all of them; each begins with nothing known
-    record AreTraced (pc : ℕ) (fs : List Function) : Type 0 where
-      piece : S Z pc (functions_code m G pc fs)
-      begins : (table : ℕ → Ties) → Agrees table pc piece.states → Fit [] (table (pc + length (functions_code m G pc fs))) → (d : ℕ) → Fit [] (table (begin_of pc fs d))
-
-    all_functions : (pc : ℕ) (fs : List Function) → AreTraced pc fs
-    unfolding joins begin_of
-    all_functions pc [] = record {
-      piece = flow.nothing (tied flat) Z [] pc [] (fit_same []);
-      begins = λ table h end d. let z : pc + 0 ≡ pc = omega arith in subst (λ q. Fit [] (table q)) z end;
-    }
-    all_functions pc (fn ∷ rest) =
-        let C = function_code m G pc fn in
-        let F = functions_code m G (pc + length C) rest in
-        let p = a_function m pc fn in
-        let q = all_functions (pc + length C) rest in
-        record {
-          piece = flow.joins (tied flat) Z [] [] [] pc C F p q.piece;
-          begins = λ table h end d. begins_by table d (λ u. flow.enters (tied flat) Z [] pc (C ++ F) [] (flow.joins (tied flat) Z [] [] [] pc C F p q.piece) table h end)
-              (λ k. q.begins table (agrees_right table pc p.states q.piece.states (length C) p.many h) (let z : pc + length (C ++ F) ≡ pc + length C + length F = omega (arith, length-append C F) in subst (λ n. Fit [] (table n)) z end) k);
-        }
-      where
-        begins_by : (table : ℕ → Ties) (d : ℕ) → (Unit {0} → Fit [] (table pc)) → ((k : ℕ) → Fit [] (table (begin_of (pc + length (function_code m G pc fn)) rest k))) → Fit [] (table (begin_of pc (fn ∷ rest) d))
-        begins_by table zero p q = p tt
-        begins_by table (suc d) p q = q d
-
-    row_entry : (pc : ℕ) (fs : List Function) (rows : List Row) → AreRows m G pc fs rows → (d : ℕ) → d < length rows → (slice_index_or rows d no_function).entry ≡ begin_of pc fs d
-    unfolding begin_of
-    row_entry pc [] rows are d lt = absurd (let e = ap length are in omega (arith, e, lt))
-    row_entry pc (fn ∷ rest) [] are d lt = absurd are
-    row_entry pc (fn ∷ rest) (row ∷ rows) are zero lt = are.0.entry
-    row_entry pc (fn ∷ rest) (row ∷ rows) are (suc d) lt = row_entry (pc + length (function_code m G pc fn)) rest rows are.1 d (omega (arith, lt))
+  -- nothing is known before the first line
+  first_known : (m : Assignment) (globals : List GlobalCells) (fs : List Function) (table : ℕ → Ties) → ((d : ℕ) (f : Function) → slice_get fs d ≡ Some f → Fit [] (table (begin_of m globals 0 fs d)))
+      → ((q : ℕ) → length (functions_code m globals 0 fs) ≤ q → table q ≡ []) → table 0 ≡ []
+  first_known m globals [] table begins past = past 0 (omega arith)
+  first_known m globals (f ∷ fs) table begins past = nothing_in (table 0) (begins 0 f refl)
 
 -- what is known at each line of flattened code, and nothing after them and where a function begins
 pub record IsTraced (flat : Flat) : Type 0 where
@@ -304,28 +274,24 @@ pub stand : (flat : Flat) → IsTraced flat → LocksStand flat
 stand flat t = locks_stand flat t.table t.last t.begins t.needs
 
 pub flattened_is_traced : (m : Assignment) (flat : Flat) → IsFlattened m flat → IsTraced flat
-unfolding begin_of
 flattened_is_traced m flat is =
     let fs = functions_in m.typed.program.items in
     let C = functions_code m flat.globals 0 fs in
     let size = ap length is.lines in
-    let t = all_functions flat m 0 fs in
-    let p = t.piece in
-    let many = p.many in
+    let many = rows_as_many m flat.globals 0 fs flat.functions is.functions in
+    let p = whole m flat.globals (Z flat) (λ f. Needs flat) (λ f fn. Fit []) 0 fs (λ d fn at. a_function flat m (begin_of m flat.globals 0 fs d) fn) in
     let table : ℕ → Ties = λ q. slice_index_or p.states q [] in
     let agrees : Agrees table 0 p.states = agrees_all [] p.states [] 0 refl in
-    let last : (q : ℕ) → length C ≤ q → table q ≡ [] = λ q le. get_or_past p.states q [] (omega (arith, le, many)) in
-    let end : Fit [] (table (0 + length C)) = subst (Fit []) (sym (last (0 + length C) (omega arith))) (fit_same []) in
-    let first : table 0 ≡ [] = nothing_in (table 0) (flow.enters (tied flat) (Z flat) [] 0 C [] p table agrees end) in
+    let last : (q : ℕ) → length flat.lines ≤ q → table q ≡ [] = λ q le. get_or_past p.states q [] (omega (arith, le, size, p.many)) in
+    let first = first_known flat m flat.globals fs table (p.begins table agrees) (λ q le. last q (omega (arith, le, size))) in
     let begins : (f : ℕ) → table (function_of flat f).entry ≡ [] =
-    λ f. ⊎_elim (λ lt. nothing_in (table (function_of flat f).entry) (subst (λ n. Fit [] (table n)) (sym (row_entry flat m 0 fs flat.functions is.functions f lt)) (t.begins table agrees end f)))
-    (λ ge. ap (λ (r : Row). table r.entry) (get_or_past flat.functions f no_function ge) ∙ first) (cases_lt f (length flat.functions)) in
+    λ f. ⊎_elim (λ lt. let x = some_there fs f lt in nothing_in (table (function_of flat f).entry) (subst (λ n. Fit [] (table n)) (sym (row_of m flat.globals 0 fs flat.functions is.functions f x.0 x.1).entry) (p.begins table agrees f x.0 x.1)))
+    (λ ge. ap (λ (r : Row). table r.entry) (get_or_past flat.functions f no_function (omega (arith, ge, many))) ∙ first) (cases_lt f (length fs)) in
     record {
       table = table;
-      last = λ q le. last q (omega (arith, le, size));
+      last = last;
       begins = begins;
       needs = λ pc o at.
           let z : 0 + pc ≡ pc = omega arith in
-          subst (λ n. Needs flat table n (table n) o) z
-          (flow.pick (tied flat) table 0 C (p.runs table (begins, first) (λ q low high. tt) agrees end) pc o (ap (λ l. slice_get l pc) (sym is.lines) ∙ at));
+          subst (λ n. Needs flat table n (table n) o) z (p.runs table (begins, first) agrees pc o (ap (λ l. slice_get l pc) (sym is.lines) ∙ at));
     }

@@ -30,6 +30,19 @@ pub get_right : (xs ys : List Op) (j : ℕ) → slice_get (xs ++ ys) (length xs 
 get_right [] ys j = let e : 0 + j ≡ j = omega arith in ap (slice_get ys) e
 get_right (x ∷ xs) ys j = let e : length (x ∷ xs) + j ≡ suc (length xs + j) = omega arith in ap (slice_get (x ∷ (xs ++ ys))) e ∙ get_right xs ys j
 
+-- at one of them
+pub pick : {St : Type 0} (needs : (ℕ → St) → ℕ → St → Op → Type 0) (table : ℕ → St) (pc : ℕ) (os : List Op) → pieces.Levels needs table pc os → (j : ℕ) (o : Op) → slice_get os j ≡ Some o → needs table (pc + j) (table (pc + j)) o
+pick needs table pc [] h j o at = absurd (none_some o at)
+pick needs table pc (x ∷ os) h zero o at = let z : pc ≡ pc + 0 = omega arith in subst (λ q. needs table q (table q) o) z (subst (needs table pc (table pc)) (same_some x o at) h.0)
+pick needs table pc (x ∷ os) h (suc j) o at = let z : pc + 1 + j ≡ pc + suc j = omega arith in subst (λ q. needs table q (table q) o) z (pick needs table (pc + 1) os h.1 j o at)
+
+-- a part of code that nothing leads out of: before its first line something is known, and where a table says this before each line, each has what it needs
+pub record Part {St : Type 0} (needs : (ℕ → St) → ℕ → St → Op → Type 0) (begin : St → Type 0) (D : (ℕ → St) → Type 0) (pc : ℕ) (os : List Op) : Type 0 where
+  pub states : List St
+  pub many : length states ≡ length os
+  pub begins : (table : ℕ → St) → Agrees table pc states → begin (table pc)
+  pub runs : (table : ℕ → St) → D table → Agrees table pc states → pieces.Levels needs table pc os
+
 -- A kind of knowledge: which fits which; which lines may be led to; what an operation needs, by what is known at each line, at this line, where this is known. At lines that lead elsewhere some of it is known to be plain, and the
 -- place that a jump over lines leads to may be known less well. Where a register holds NULL this is known, and where it does not, that.
 pub record Knowledge : Type 1 where
@@ -67,12 +80,6 @@ module _ (k : Knowledge) where
   levels_both table pc [] ys a b = levels_at table (pc + 0) pc ys (omega arith) b
   levels_both table pc (x ∷ xs) ys a b = (a.0, levels_both table (pc + 1) xs ys a.1 (levels_at table (pc + length (x ∷ xs)) (pc + 1 + length xs) ys (omega arith) b))
 
-  -- at one of them
-  pub pick : (table : ℕ → k.St) (pc : ℕ) (os : List Op) → Levels table pc os → (j : ℕ) (o : Op) → slice_get os j ≡ Some o → k.Needs table (pc + j) (table (pc + j)) o
-  pick table pc [] h j o at = absurd (none_some o at)
-  pick table pc (x ∷ os) h zero o at = let z : pc ≡ pc + 0 = omega arith in subst (λ q. k.Needs table q (table q) o) z (subst (k.Needs table pc (table pc)) (same_some x o at) h.0)
-  pick table pc (x ∷ os) h (suc j) o at = let z : pc + 1 + j ≡ pc + suc j = omega arith in subst (λ q. k.Needs table q (table q) o) z (pick table (pc + 1) os h.1 j o at)
-
   there : (table : ℕ → k.St) (s : k.St) (p q : ℕ) → p ≡ q → k.Fit s (table p) → k.Fit s (table q)
   there table s p q e h = subst (λ n. k.Fit s (table n)) e h
 
@@ -83,6 +90,20 @@ module _ (k : Knowledge) where
       by : (list : List k.St) → k.Fit s (first list e) → Agrees table pc list → length list ≡ length os → k.Fit s (table pc)
       by [] b a n = let z : pc + length os ≡ pc = omega (arith, n) in k.through s e (table pc) b (subst (λ q. k.Fit e (table q)) z h)
       by (x ∷ rest) b a n = subst (k.Fit s) (sym a.0) b
+
+  -- a piece and a line behind it that leads nowhere
+  pub ends : (D : (ℕ → k.St) → Type 0) (s e : k.St) (pc : ℕ) (os : List Op) (o : Op) → Piece D s pc os e → pieces.AreOwn k.Own pc (length os) → ((table : ℕ → k.St) → k.Needs table (pc + length os) e o) → Part k.Needs (k.Fit s) D pc (os ++ o ∷ [])
+  ends D s e pc os o p own last = record {
+    states = p.states ++ e ∷ [];
+    many = let n = p.many in omega (arith, n, length-append os (o ∷ []), length-append p.states (e ∷ []));
+    begins = λ table a. enters D s pc os e p table (agrees_left table pc p.states (e ∷ []) a) (at_end table a);
+    runs = λ table d a.
+        levels_both table pc os (o ∷ []) (p.runs table d own (agrees_left table pc p.states (e ∷ []) a) (at_end table a))
+        (subst (λ x. k.Needs table (pc + length os) x o) (sym (agrees_right table pc p.states (e ∷ []) (length os) p.many a).0) (last table), tt);
+  }
+    where
+      at_end : (table : ℕ → k.St) → Agrees table pc (p.states ++ e ∷ []) → k.Fit e (table (pc + length os))
+      at_end table a = subst (k.Fit e) (sym (agrees_right table pc p.states (e ∷ []) (length os) p.many a).0) (k.same e)
 
   pub wider : (D : (ℕ → k.St) → Type 0) (s0 s : k.St) (pc : ℕ) (os : List Op) (e : k.St) → k.Fit s0 s → Piece D s pc os e → Piece D s0 pc os e
   wider D s0 s pc os e h p = record { states = p.states; many = p.many; begins = k.through s0 s (first p.states e) h p.begins; runs = p.runs }

@@ -1,1 +1,3 @@
 pub mod Flow
+pub mod Functions
+pub mod Laid

@@ -4,7 +4,6 @@ pub mod Accesses
 pub mod After
 pub mod Anyhow
 pub mod Arrays
-pub mod Assembled
 pub mod Beginning
 pub mod Blocks
 pub mod Bodies

@@ -1,23 +1,9 @@
 -- The flat code of a typable program, with its texts laid out, is typed whatever checks are remembered.
-use Rattle.sharc_typed_laws.proofs.{Imports.{AllByRecursion, ◌≡◌, ℕ, zero, suc, ◌+◌, ◌<◌, ◌≤◌, true, false, List, [], ◌∷◌, ◌++◌, length, map, max, Option, Some, None, refl, sym, ap, ◌∙◌, subst, arith, same_Some, none-some, slice_get_within, slice_get, slice_index_or, Function, declared_kind, Row, GlobalCells, Text, no_function, function_of, Resolution, functions_in, function_at, Assignment, FlatCode, Op, Flat, flat_function, flat_of, in_function, function_code, functions_code, rows_of, parameter_of, parameters_scope, Flattens, names_of, ints_needed, refs_needed, told_by, with_texts, AreLaid, AreNamed, FitsMade, int_count, ref_count, globals_of, place, entered_at, dropped, Less, Closed, IsScoped, MayStart, ints_in, refs_in, entry_label, FlatLabels, outside, To, IsTypedAnyhow, Mark, Setting, IsLine, flat_labels, labels_by, mark, Typing, label_of, AreAllLines, LinesAreTyped, LinesTell, LinesKnow, FunctionTypable, FunctionsAreTyped, AreGlobalsNamed, TypableProgram, IsSettingOf, found}, Assembled.{table_of, agrees_self, past_marks, AllFunctions, all_marks, marks_many, owner_from, lines_are, begins_at}, Framing.{AreFew, are_within}, Arrays.{arrays_low, globals_there}, Remembered.{variables, low}, Starting.{signature_plain, starts_by}, Texts.line_told}
+use Rattle.sharc_typed_laws.proofs.{Imports.{AllByRecursion, ◌≡◌, ℕ, zero, suc, ◌+◌, ◌<◌, true, false, List, [], ◌∷◌, length, map, Option, Some, None, refl, sym, ap, ◌∙◌, subst, arith, same_Some, none-some, slice_get_within, slice_get, slice_index_or, Function, declared_kind, Row, GlobalCells, Text, no_function, function_of, Resolution, functions_in, function_at, Assignment, FlatCode, Op, Flat, flat_function, flat_of, in_function, function_code, functions_code, rows_of, Flattens, names_of, told_by, with_texts, AreLaid, AreNamed, FitsMade, int_count, globals_of, place, entered_at, dropped, Less, Closed, IsScoped, MayStart, ints_in, refs_in, entry_label, FlatLabels, outside, To, IsTypedAnyhow, Mark, Setting, IsLine, flat_labels, labels_by, mark, Typing, label_of, AreAllLines, LinesAreTyped, LinesTell, LinesKnow, FunctionTypable, FunctionsAreTyped, AreGlobalsNamed, TypableProgram, IsSettingOf, found, Agrees, Fits, agrees_all, before, first, get_or_past}, Framing.{AreFew, are_within}, Arrays.{arrays_low, globals_there}, Remembered.{variables, low}, Starting.{signature_plain, starts_by}, Texts.line_told}
+use Rattle.sharc_flat.specs.Flattened.{AreRows}
+use Rattle.sharc_flat_lemmas.proofs.Functions.{Parts, Whole, are_rows, begin_of, is_there, owner_of, row_of, rows_as_many, whole}
 use Rattle.sharc_flat_laws.specs.Tables.{MadeIsPast, OpPast}
-use Rattle.sharc_invariant.specs.Typed.{IsPlain}
-
--- ---- lists
-get_left : (xs ys : List Op) (j : ℕ) (o : Op) → slice_get xs j ≡ Some o → slice_get (xs ++ ys) j ≡ Some o
-get_left [] ys j o e = absurd (none-some o e)
-get_left (x ∷ xs) ys zero o e = e
-get_left (x ∷ xs) ys (suc j) o e = get_left xs ys j o e
-
-get_right : (xs ys : List Op) (j : ℕ) → slice_get (xs ++ ys) (length xs + j) ≡ slice_get ys j
-get_right [] ys j = let e : 0 + j ≡ j = omega arith in ap (slice_get ys) e
-get_right (x ∷ xs) ys j = let e : length (x ∷ xs) + j ≡ suc (length xs + j) = omega arith in ap (slice_get (x ∷ (xs ++ ys))) e ∙ get_right xs ys j
-
-few_left : (xs ys : List Op) → AreFew (xs ++ ys) → AreFew xs
-few_left xs ys few = λ n o at. few n o (get_left xs ys n o at)
-
-few_right : (xs ys : List Op) → AreFew (xs ++ ys) → AreFew ys
-few_right xs ys few = λ n o at. few (length xs + n) o (get_right xs ys n ∙ at)
+use Rattle.sharc_invariant.specs.{Typed.IsPlain, Types.Targets}
 
 -- ---- lines with their texts laid out
 record Told (told : List Op) (n : ℕ) (p : Op) : Type 0 where
@@ -82,21 +68,10 @@ entered_length : (pl : ℕ → ℕ) (rows : List Row) → length (map (entered_a
 entered_length pl [] = refl
 entered_length pl (row ∷ rows) = ap suc (entered_length pl rows)
 
-module _ (m : Assignment) (globals : List GlobalCells) where
-  rows_many : (pc : ℕ) (fs : List Function) → length (rows_of m globals pc fs) ≡ length fs
-  rows_many pc [] = refl
-  rows_many pc (f ∷ fs) = ap suc (rows_many (pc + length (function_code m globals pc f)) fs)
-
-  -- the row of a function
-  record RowOf (row : Row) (f : Function) : Type 0 where
-    parameter : row.parameter ≡ parameter_of f.parameters
-    ints : int_count (parameters_scope f.parameters) ≤ row.ints
-    refs : ref_count (parameters_scope f.parameters) ≤ row.refs
-
-  row_of_function : (pc : ℕ) (fs : List Function) (n : ℕ) (f : Function) → slice_get fs n ≡ Some f → RowOf (slice_index_or (rows_of m globals pc fs) n no_function) f
-  row_of_function pc [] n f at = absurd (none-some f at)
-  row_of_function pc (g ∷ fs) zero f at = subst (RowOf (slice_index_or (rows_of m globals pc (g ∷ fs)) zero no_function)) (same_Some g f at) (record { parameter = refl; ints = omega arith; refs = omega arith })
-  row_of_function pc (g ∷ fs) (suc n) f at = row_of_function (pc + length (function_code m globals pc g)) fs n f at
+-- what is said before the first of some lines
+first_there : (targets : Targets) (table : ℕ → Mark) (pc : ℕ) (marks : List Mark) (s : Mark) → 0 < length marks → Agrees table pc marks → Fits targets s (first marks s) → Fits targets s (table pc)
+first_there targets table pc [] s some agrees fits = absurd (omega (arith, some))
+first_there targets table pc (x ∷ marks) s some agrees fits = subst (Fits targets s) (sym agrees.0) fits
 
 -- ---- the whole
 module _ (typed_lines : LinesAreTyped) (tell : LinesTell) (know : LinesKnow) (functions_typed : FunctionsAreTyped) (made_past : MadeIsPast) (m : Assignment) (flat : FlatCode) (flattens : Flattens m flat) (fits : FitsMade (flat_of flat)) (known : AreGlobalsNamed m)
@@ -118,6 +93,9 @@ module _ (typed_lines : LinesAreTyped) (tell : LinesTell) (know : LinesKnow) (fu
 
   abbrev bytes : List ℕ
   bytes = flat.texts.items
+
+  are : AreRows m globals 0 fs rows
+  are = are_rows m globals 0 fs
 
   lines_laid : AreLaid m.typed bytes L made.lines
   lines_laid = flattens.lays.lines
@@ -141,7 +119,7 @@ module _ (typed_lines : LinesAreTyped) (tell : LinesTell) (know : LinesKnow) (fu
   code_functions = (λ i. (of.code.generated.functions i).items) ∙ of.code.made.functions
 
   functions_many : length z.code.functions.items ≡ length fs
-  functions_many = ap length code_functions ∙ entered_length pl made.functions ∙ named_length bytes rows made.functions (names_of fs) rows_named ∙ rows_many m globals 0 fs
+  functions_many = ap length code_functions ∙ entered_length pl made.functions ∙ named_length bytes rows made.functions (names_of fs) rows_named ∙ sym (rows_as_many m globals 0 fs rows are)
 
   in_code : {A : Type 0} (of : Row → A) → ((row : Row) (pc : ℕ) → of (record row { entry = pc }) ≡ of row) → ((row : Row) (name : Text) → of (record row { name = name }) ≡ of row) → (n : ℕ) → of (function_of z.code n) ≡ of (slice_index_or rows n no_function)
   in_code of entered renamed n = ap (λ rows. of (slice_index_or rows n no_function)) code_functions ∙ entered_same of entered pl made.functions n ∙ rows_same of renamed bytes rows made.functions (names_of fs) rows_named n
@@ -155,48 +133,48 @@ module _ (typed_lines : LinesAreTyped) (tell : LinesTell) (know : LinesKnow) (fu
   parameter_is : (n : ℕ) → (function_of z.code n).parameter ≡ (slice_index_or rows n no_function).parameter
   parameter_is = in_code (λ row. row.parameter) (λ row pc. refl) (λ row name. refl)
 
-  all_functions : (k pc : ℕ) (gs : List Function) → ((d : ℕ) (f : Function) → slice_get gs d ≡ Some f → function_at m.typed (k + d) ≡ Some f)
-      → ((d : ℕ) → (function_of z.code (k + d)).ints ≡ (slice_index_or (rows_of m globals pc gs) d no_function).ints) → ((d : ℕ) → (function_of z.code (k + d)).refs ≡ (slice_index_or (rows_of m globals pc gs) d no_function).refs)
-      → AreFew (functions_code m globals pc gs) → AllFunctions z y m globals k pc gs
-  all_functions k pc [] at ints refs few = tt
-  all_functions k pc (f ∷ gs) at ints refs few =
-      let C = function_code m globals pc f in
-      let R = functions_code m globals (pc + length C) gs in
-      let here : k + 0 ≡ k = omega arith in
-      let ints0 : (function_of z.code k).ints ≡ max (int_count (parameters_scope f.parameters)) (ints_needed C) = subst (λ n. (function_of z.code n).ints ≡ max (int_count (parameters_scope f.parameters)) (ints_needed C)) here (ints 0) in
-      let refs0 : (function_of z.code k).refs ≡ max (ref_count (parameters_scope f.parameters)) (refs_needed C) = subst (λ n. (function_of z.code n).refs ≡ max (ref_count (parameters_scope f.parameters)) (refs_needed C)) here (refs 0) in
-      let on : (d : ℕ) → k + suc d ≡ k + 1 + d = λ d. omega arith in (
-        functions_typed z k y t.low m globals f (t.functions k f (subst (λ n. function_at m.typed n ≡ Some f) here (at 0 f refl))) (omega (arith, ints0)) (omega (arith, refs0)) pc
-            (are_within (function_of z.code k).ints (function_of z.code k).refs C (omega (arith, ints0)) (omega (arith, refs0)) (few_left C R few)),
-        all_functions (k + 1) (pc + length C) gs (λ d g e. subst (λ n. function_at m.typed n ≡ Some g) (on d) (at (suc d) g e)) (λ d. subst (λ n. (function_of z.code n).ints ≡ (slice_index_or (rows_of m globals (pc + length C) gs) d no_function).ints) (on d) (ints (suc d)))
-            (λ d. subst (λ n. (function_of z.code n).refs ≡ (slice_index_or (rows_of m globals (pc + length C) gs) d no_function).refs) (on d) (refs (suc d))) (few_right C R few),
-      )
-
-  from_zero : (n : ℕ) → n ≡ 0 + n
-  from_zero n = omega arith
-
-  pub functions : AllFunctions z y m globals 0 0 fs
-  functions = all_functions 0 0 fs (λ d f e. subst (λ n. function_at m.typed n ≡ Some f) (from_zero d) e) (λ d. subst (λ n. (function_of z.code n).ints ≡ (slice_index_or rows d no_function).ints) (from_zero d) (ints_are d))
-      (λ d. subst (λ n. (function_of z.code n).refs ≡ (slice_index_or rows d no_function).refs) (from_zero d) (refs_are d)) few
-
   -- ---- what is said before each line
-  abbrev marks : List Mark
-  marks = all_marks z y m globals 0 0 fs functions
+  abbrev begins_with : ℕ → Function → Mark
+  begins_with n f = before (in_function m globals f) (label_of y (in_function m globals f) n)
+
+  all_inside : length L ≡ z.lines
+  all_inside = sym many ∙ sym of.lines
+
+  part : Parts m globals (λ (table : ℕ → Mark). Unit {0}) (IsLine z) (λ n f. Fits z.targets (begins_with n f)) 0 fs
+  part n f at =
+      let pc = begin_of m globals 0 fs n in
+      let C = function_code m globals pc f in
+      let there = is_there m globals 0 fs n f at in
+      let row = row_of m globals 0 fs rows are n f at in
+      let ints = ints_are n in
+      let refs = refs_are n in
+      let some : 0 < length C = omega arith in
+      let l = functions_typed z n y t.low m globals f (t.functions n f at) (omega (arith, ints, row.ints)) (omega (arith, refs, row.refs)) pc
+      (are_within (function_of z.code n).ints (function_of z.code n).refs C (omega (arith, ints, row.ints)) (omega (arith, refs, row.refs)) (λ j o e. let w = there.line j o e in few w.0 o w.1)) in
+      record {
+        states = l.marks;
+        many = l.many;
+        begins = λ table agrees. first_there z.targets table pc l.marks (begins_with n f) (omega (arith, some, l.many)) agrees l.begins;
+        runs = λ table d agrees. l.runs table (omega (arith, there.high, all_inside)) agrees;
+      }
+
+  pub functions : Whole m globals (λ (table : ℕ → Mark). Unit {0}) (IsLine z) (λ n f. Fits z.targets (begins_with n f)) 0 fs
+  functions = whole m globals (λ (table : ℕ → Mark). Unit {0}) (IsLine z) (λ n f. Fits z.targets (begins_with n f)) 0 fs part
 
   abbrev none : Mark
   none = mark outside 0 0
 
   abbrev pub table : ℕ → Mark
-  table = table_of marks none
+  table n = slice_index_or functions.states n none
+
+  agrees : Agrees table 0 functions.states
+  agrees = agrees_all [] functions.states none 0 refl
 
   abbrev owner : ℕ → ℕ
-  owner = owner_from z y m globals 0 0 fs
-
-  all_inside : 0 + length L ≡ z.lines
-  all_inside = sym (from_zero (length L)) ∙ sym many ∙ sym of.lines
+  owner = owner_of m globals 0 fs
 
   told_lines : (n : ℕ) (o : Op) → slice_get L n ≡ Some o → IsLine z (owner n) table n (table n) o
-  told_lines n o at = subst (λ q. IsLine z (owner q) table q (table q) o) (sym (from_zero n)) (lines_are z y m globals table 0 0 fs functions (omega (arith, all_inside)) (agrees_self marks none) n o at)
+  told_lines n o at = let e : 0 + n ≡ n = omega arith in subst (λ q. IsLine z (owner q) table q (table q) o) e (functions.runs table tt agrees n o at)
 
   lines : AreAllLines z owner table made
   lines n o at =
@@ -212,15 +190,14 @@ module _ (typed_lines : LinesAreTyped) (tell : LinesTell) (know : LinesKnow) (fu
 
   entries : (f : ℕ) → f < length made.functions → To (labels_by z table) (length made.lines) (flat_function made f).entry (entry_label (labels_by z table) f)
   entries f lt =
-      let lt2 : f < length fs = subst (λ n. f < n) (named_length bytes rows made.functions (names_of fs) rows_named ∙ rows_many m globals 0 fs) lt in
+      let lt2 : f < length fs = subst (λ n. f < n) (named_length bytes rows made.functions (names_of fs) rows_named ∙ sym (rows_as_many m globals 0 fs rows are)) lt in
       let g = found fs f lt2 in
-      let begins = begins_at z y m globals table 0 0 fs functions (agrees_self marks none) f g.0 g.1 in
-      let entry = begins.entry in
-      let here : (flat_function made f).entry ≡ (slice_index_or rows f no_function).entry = rows_same (λ row. row.entry) (λ row name. refl) bytes rows made.functions (names_of fs) rows_named f in
-      let less : Less (label_of y (in_function m globals g.0) f) (table (slice_index_or rows f no_function).entry).label =
-      subst (λ n. Less (label_of y (in_function m globals g.0) n) (table (slice_index_or rows f no_function).entry).label) (sym (from_zero f)) begins.fits.less in
+      let row = row_of m globals 0 fs rows are f g.0 g.1 in
+      let there = is_there m globals 0 fs f g.0 g.1 in
+      let here : (flat_function made f).entry ≡ begin_of m globals 0 fs f = rows_same (λ row. row.entry) (λ row name. refl) bytes rows made.functions (names_of fs) rows_named f ∙ row.entry in
+      let fits = functions.begins table agrees f g.0 g.1 in
       subst (λ pc. To (labels_by z table) (length made.lines) pc (entry_label (labels_by z table) f)) (sym here)
-      (omega (arith, entry, many), subst (λ l. Less l (table (slice_index_or rows f no_function).entry).label) (sym (entry_is f g.0 (t.functions f g.0 g.1))) less)
+      (omega (arith, there.high, many), subst (λ l. Less l (table (begin_of m globals 0 fs f)).label) (sym (entry_is f g.0 (t.functions f g.0 g.1))) fits.less)
 
   plain : (f : ℕ) → IsPlain (z.signature f)
   plain f = by (function_at m.typed f) refl
@@ -238,7 +215,7 @@ module _ (typed_lines : LinesAreTyped) (tell : LinesTell) (know : LinesKnow) (fu
       let g = s.may.function in
       let h = t.functions f g s.may.at in
       let c = in_function m globals g in
-      let row = row_of_function m globals 0 fs f g s.may.at in
+      let row = row_of m globals 0 fs rows are f g s.may.at in
       let ints = ints_are f in
       let refs = refs_are f in
       let row_ints = row.ints in
@@ -258,7 +235,7 @@ module _ (typed_lines : LinesAreTyped) (tell : LinesTell) (know : LinesKnow) (fu
     knows = know z owner table made lines;
     variables = variables z owner table made lines past (tell z owner table made lines) (know z owner table made lines);
     low = low z owner table made lines past (tell z owner table made lines) (know z owner table made lines) of.globals;
-    end = ap (λ (s : Mark). s.label) (past_marks marks none (length made.lines) (let all = marks_many z y m globals 0 0 fs functions in omega (arith, all, many)));
+    end = ap (λ (s : Mark). s.label) (get_or_past functions.states (length made.lines) none (omega (arith, functions.many, many)));
     owned = λ n lt. let w = found made.lines n lt in (owner n, (lines n w.0 w.1).owned);
     scoped = λ n lt. let w = found made.lines n lt in
         let l = lines n w.0 w.1 in
