@@ -1,5 +1,5 @@
 -- The laws of typed programs.
-use Rattle.sharc_ctype_laws.proofs.{Imports.{◌≡◌, ◌++◌, length, Some, arith, refl, AllByRecursion, IsLow, items_marks, in_function, Expression, HasType, NamesOwnVariables, MeetsRules, MeetsGlobals, SpawnsByName, SpawnsNameFunctions, SpawnsThreads, ReachesFunctions, OneType, EachNameOnce, OnlyNames, EachNamesItself, EachNamesOwn, NamesFound, EachNamesFound, EachPathFound, IsPlain, ArePlain, NamesInTypes, SameKinds, MeetsConstraints, MeetsStatements, AllFair, WithinLimits, HasMain, IsClosed, PathsAt, BodyStands, Placing, places_of, places_of_all, EachTypeFound, look_up, type_of, notes_of, IsFair, function_transfers, file_scope, items_notes, notes_about, main_missing, sizes_notes, heads_notes, no_heads, Resolution, IsResolved, functions_in, declarations_in, kind_at, each, together}, AtMost.program_most, Closed.{items_closed, body_stands, cast_stands, none_closed, all_types}, Exact.program_is, Begun.globals_meet, FileScene.{file_scene, each_function}, Forgotten.in_function_all, Held.{Held, left, right, clean, clean_left, clean_right}, Judged.{named_by, spawned_name}, Limited.{few, small, few_cells, main_is}, TypesFound.{each_found, all_declared}, OwnTokens.{HasOwnTokens, own_tokens, all_held}, Reached.{spawned_thread, reached_function}, OwnVariables.{own_variables, none_in_file}, Scenes.IsScene, ToldOnce.{counted, name_counted, name_there, told_once}, Checked.{of_function, items_places, named_items, plain_function, themselves}, Walked.{AreDeclared, JudgedAt}}
+use Rattle.sharc_ctype_laws.proofs.{Imports.{◌≡◌, ◌++◌, length, Some, arith, refl, AllByRecursion, IsLow, items_marks, in_function, Expression, HasType, NamesOwnVariables, MeetsRules, MeetsGlobals, SpawnsByName, SpawnsNameFunctions, SpawnsThreads, ReachesFunctions, OneType, EachNameOnce, OnlyNames, EachNamesItself, EachNamesOwn, NamesFound, EachNamesFound, EachPathFound, IsPlain, ArePlain, NamesInTypes, SameKinds, MeetsConstraints, MeetsStatements, AllFair, WithinLimits, HasMain, IsClosed, PathsAt, BodyStands, Placing, places_of, places_of_all, EachTypeFound, look_up, type_of, notes_of, IsFair, function_transfers, file_scope, items_notes, notes_about, main_missing, sizes_notes, heads_notes, no_heads, Resolution, IsResolved, functions_in, declarations_in, kind_at, each, together}, Closed.{items_closed, body_stands, cast_stands, none_closed, all_types}, Exact.{program_is, program_most}, Begun.globals_meet, FileScene.{file_scene, each_function}, Forgotten.in_function_all, Held.{Held, left, right, clean, clean_left, clean_right}, Judged.{named_by, spawned_name}, Limited.{few, small, few_cells, main_is}, TypesFound.{each_found, all_declared}, OwnTokens.{HasOwnTokens, own_tokens, all_held}, Reached.{spawned_thread, reached_function}, OwnVariables.{own_variables, none_in_file}, Scenes.IsScene, ToldOnce.{counted, name_counted, name_there, told_once}, Checked.{of_function, items_places, named_items, plain_function, themselves}, Walked.{AreDeclared, JudgedAt}}
 use Rattle.sharc_tree.specs.Tree as tree
 use Rattle.sharc_ctype_laws.proofs.OneType as types
 
@@ -79,7 +79,7 @@ each_name_once r resolved placed low token c =
 
 pub only_names : OnlyNames
 only_names r resolved placed low token c =
-    let m = program_most token (length r.program.tokens.list) r.program.items low in
+    let m = program_most token r (length r.program.tokens.list) r.program.items low in
     let t = counted token (notes_about r.program) c in
     name_there token (items_marks r.program.items) (omega (arith, m, t))
 
