@@ -10,10 +10,10 @@ pub record IsFirstKind (structs : StructTable) (o : Option Kind) : Type 0 where
   pub solid : IsSolid structs kind
 
 entry_kind : (r : Resolution) (scope : Scope) → IsScene r scope → (token : ℕ) (name : List ℕ) (o : Option Entry) → look_up scope.names name ≡ o → Held r (name_notes token o) → IsFirstKind scope.structs (name_kind o)
-entry_kind r scope scene token name None is h = absurd (no_fault r _ _ _ h)
+entry_kind r scope scene token name None is h = absurd (no_fault _ _ _ _ h)
 entry_kind r scope scene token name (Some e) is h = record {
   kind = kind_of e.meaning;
-  is = ap (λ b. cond b None (Some (kind_of e.meaning))) (not_wrong r (is_main e.meaning) token BadForm (behind_head r _ _ _ h));
+  is = ap (λ b. cond b None (Some (kind_of e.meaning))) (not_wrong _ (is_main e.meaning) token BadForm (behind_head _ _ _ _ h));
   solid = solid_meaning r scope.structs name e.meaning (found_name r scope.structs scope.names name e scene.names is);
 }
 
@@ -24,11 +24,11 @@ path_kind r scope scene siblings all token name (Some d) is h = record { kind = 
 
 second_by : (t : ℕ) (r : Resolution) (scope : Scope) → IsScene r scope → (token : ℕ) (name : List ℕ) (k : Kind) (b : Bool) → is_struct_behind 1 k ≡ b → IsSolid scope.structs k → Held r (second_notes token (cond b (field_in scope.structs name (Some k)) (Some None)))
     → told t (second_notes token (cond b (field_in scope.structs name (Some k)) (Some None))) ≡ one t token
-second_by t r scope scene token name k false is s h = absurd (no_fault r _ _ _ h)
+second_by t r scope scene token name k false is s h = absurd (no_fault _ _ _ _ h)
 second_by t r scope scene token name k true is s h =
     let b = struct_behind_is 1 k is in
     let m = subst (IsSolid scope.structs) b.1 s in
-    let f = member_of r scope.structs token name b.0 1 m.0 scene.structs m.1 (subst (λ z. Held r (field_notes token (field_in scope.structs name (Some z)))) b.1 (second_held r token (field_in scope.structs name (Some k)) h)) in
+    let f = member_of r scope.structs token name b.0 1 m.0 scene.structs m.1 (subst (λ z. Held r (field_notes token (field_in scope.structs name (Some z)))) b.1 (second_held _ token (field_in scope.structs name (Some k)) h)) in
     ap (λ z. told t (second_notes token z)) (ap (λ z. field_in scope.structs name (Some z)) b.1 ∙ f.found) ∙ told_second t token _
 
 second_is : (t : ℕ) (r : Resolution) (scope : Scope) → IsScene r scope → (token : ℕ) (name : List ℕ) (o : Option Kind) → IsFirstKind scope.structs o → Held r (second_notes token (second_in scope.structs name o))
@@ -51,7 +51,7 @@ module _ (t : ℕ) (r : Resolution) where
   silent h = let e = written_none t in record { most = omega (arith, h); same = λ k held. omega (arith, h, e) }
 
   faulty : {K : Type 0} {place : ℕ} {code : FaultCode} {list : List Mark} → Tells K (fault place code ∷ []) list
-  faulty {place = place} {code = code} = let e = quiet_fault t place code in record { most = omega (arith, e); same = λ k h. absurd (no_fault r place code [] h) }
+  faulty {place = place} {code = code} = let e = quiet_fault t place code in record { most = omega (arith, e); same = λ k h. absurd (no_fault _ place code [] h) }
 
   as_written : {K : Type 0} {notes : List Note} {x y : List Mark} → written t x ≡ written t y → Tells K notes x → Tells K notes y
   as_written e w = record { most = omega (arith, e, w.most); same = λ k h. w.same k h ∙ e }
@@ -60,24 +60,24 @@ module _ (t : ℕ) (r : Resolution) where
   two {a = a} {b = b} {x = x} {y = y} v w =
       let e = told-append t a b in
       let f = written-append t x y in
-      record { most = omega (arith, e, f, v.most, w.most); same = λ k h. let p = v.same k (left r a b h) in let q = w.same k (right r a b h) in omega (arith, e, f, p, q) }
+      record { most = omega (arith, e, f, v.most, w.most); same = λ k h. let p = v.same k (left _ a b h) in let q = w.same k (right _ a b h) in omega (arith, e, f, p, q) }
 
   crossed : {K : Type 0} {a b : List Note} {x y : List Mark} → Tells K a y → Tells K b x → Tells K (a ++ b) (x ++ y)
   crossed {a = a} {b = b} {x = x} {y = y} v w =
       let e = told-append t a b in
       let f = written-append t x y in
-      record { most = omega (arith, e, f, v.most, w.most); same = λ k h. let p = v.same k (left r a b h) in let q = w.same k (right r a b h) in omega (arith, e, f, p, q) }
+      record { most = omega (arith, e, f, v.most, w.most); same = λ k h. let p = v.same k (left _ a b h) in let q = w.same k (right _ a b h) in omega (arith, e, f, p, q) }
 
   -- before, and behind, notes that refer to nothing
   quiet : {K : Type 0} {a : List Note} {x : List Mark} (b : List Note) → Tells K a x → told t b ≡ 0 → Tells K (a ++ b) x
   quiet {a = a} b w none =
       let e = told-append t a b in
-      record { most = omega (arith, e, none, w.most); same = λ k h. let p = w.same k (left r a b h) in omega (arith, e, none, p) }
+      record { most = omega (arith, e, none, w.most); same = λ k h. let p = w.same k (left _ a b h) in omega (arith, e, none, p) }
 
   later : {K : Type 0} {b : List Note} {x : List Mark} (a : List Note) → told t a ≡ 0 → Tells K b x → Tells K (a ++ b) x
   later {b = b} a none w =
       let e = told-append t a b in
-      record { most = omega (arith, e, none, w.most); same = λ k h. let p = w.same k (right r a b h) in omega (arith, e, none, p) }
+      record { most = omega (arith, e, none, w.most); same = λ k h. let p = w.same k (right _ a b h) in omega (arith, e, none, p) }
 
   -- ---- names
   exactly : {K : Type 0} {notes : List Note} (n : ℕ) (text : List ℕ) → told t notes ≡ one t n → Tells K notes (a_name n text ∷ [])
@@ -128,7 +128,7 @@ module _ (t : ℕ) (r : Resolution) where
   path_told scope scene siblings all (One m token) = first_told m token (field_of siblings m) (look_up scope.names m)
   path_told scope scene siblings all (Through x token m) =
       known (two (first_told x token (field_of siblings x) (look_up scope.names x))
-      (second scope (λ k. scene k.0) (token + 2) m (first_kind (field_of siblings x) (look_up scope.names x)) (λ k. path_kind r scope (scene k.0) siblings (all k.0) token x (field_of siblings x) refl (left r _ _ k.1))))
+      (second scope (λ k. scene k.0) (token + 2) m (first_kind (field_of siblings x) (look_up scope.names x)) (λ k. path_kind r scope (scene k.0) siblings (all k.0) token x (field_of siblings x) refl (left _ _ _ k.1))))
 
   mode_told : {K : Type 0} (scope : Scope) → (K → IsScene r scope) → (siblings : List Declaration) → (K → AllByRecursion (IsField r scope.structs) siblings) → (m : Option Mode) → Tells K (mode_notes scope siblings m) (level_marks m)
   mode_told scope scene siblings all (Some (Mode.Locked path)) = path_told scope scene siblings all path
@@ -168,7 +168,7 @@ module _ (t : ℕ) (r : Resolution) where
     told_in stands scope scene (tree.field s a w n) l =
         known (two (quiet _ (told_in AsValue scope (λ k. scene k.0) a l) (quiet_unmet t (access_need w) a (type_of scope a)))
         (member n.text n.site.token (field_in scope.structs n.text (met (access_need w) (type_of scope a)))
-        (λ k. let f = field_member r scope (scene k.0) s a w n (judged r scope (scene k.0) a (left r _ _ (left r _ _ k.1))) k.1 in (f.found.member, f.found.found))))
+        (λ k. let f = field_member r scope (scene k.0) s a w n (judged r scope (scene k.0) a (left _ _ _ (left _ _ _ k.1))) k.1 in (f.found.member, f.found.found))))
     told_in stands scope scene (tree.unary s o a) l = quiet _ (told_in AsValue scope scene a l) (quiet_unmet t (operand_need o) a (type_of scope a))
     told_in stands scope scene (tree.binary s o at a b) l =
         quiet _
@@ -252,13 +252,13 @@ module _ (t : ℕ) (r : Resolution) where
     statement_told around scope scene (tree.for s x a) l d =
         known (two (head_of_loop (opened around scope.names) scope (λ k. scene k.0) x l.0 (λ k. front _ (first_locals x.first) (locals_in a) (d k.0)))
         (statement_told (looping (opened around (behind_first (opened around scope.names) scope.names x.first))) (in_head (opened around scope.names) scope x)
-        (λ k. head_scene r (opened around scope.names) scope (scene k.0) x (front _ (first_locals x.first) (locals_in a) (d k.0)) (left r _ _ k.1)) a l.2 (λ k. back _ (first_locals x.first) (locals_in a) (d k.0))))
+        (λ k. head_scene r (opened around scope.names) scope (scene k.0) x (front _ (first_locals x.first) (locals_in a) (d k.0)) (left _ _ _ k.1)) a l.2 (λ k. back _ (first_locals x.first) (locals_in a) (d k.0))))
 
     statements_told : {K : Type 0} (around : Around) (scope : Scope) → (K → IsScene r scope) → (all : Statements) → LowStatements all → (K → AreDeclared r (locals_in_all all)) → Tells K (notes_in_all around scope all) (statements_marks all)
     statements_told around scope scene no_statements l d = silent (told_none t)
     statements_told around scope scene (statement a rest) l d =
         known (two (statement_told around scope (λ k. scene k.0) a l.0 (λ k. front _ (locals_in a) (locals_in_all rest) (d k.0)))
-        (statements_told around (with_names scope (after around scope.names a)) (λ k. after_scene r around scope (scene k.0) a (front _ (locals_in a) (locals_in_all rest) (d k.0)) (left r _ _ k.1)) rest l.1
+        (statements_told around (with_names scope (after around scope.names a)) (λ k. after_scene r around scope (scene k.0) a (front _ (locals_in a) (locals_in_all rest) (d k.0)) (left _ _ _ k.1)) rest l.1
         (λ k. back _ (locals_in a) (locals_in_all rest) (d k.0))))
 
   -- ---- items
@@ -277,7 +277,7 @@ module _ (t : ℕ) (r : Resolution) where
       known (two (quiet _ (two (type_told scope (λ k. scene k.0) [] (λ k. tt) Role.Parameter x.written l.0) (declared_told block x scope.names)) (quiet_unless t (nat_lt n 16) x.name.site.token LimitPassed))
       (parameters_told {K = K × Held r (parameters_notes block n scope (x ∷ rest))} block (n + 1) (with_names scope (declared block x scope.names))
       (λ k. scene_with r scope (scene k.0) (declared block x scope.names)
-      (declared_meant r scope.structs block x scope.names (scene k.0).names (d k.0).0 (type_solid r scope [] Role.Parameter x.written refl (left r _ _ (left r _ _ (left r _ _ k.1)))))) rest l.1 (λ k. (d k.0).1)))
+      (declared_meant r scope.structs block x scope.names (scene k.0).names (d k.0).0 (type_solid r scope [] Role.Parameter x.written refl (left _ _ _ (left _ _ _ (left _ _ _ k.1)))))) rest l.1 (λ k. (d k.0).1)))
 
   item_told : {K : Type 0} (file : Scope) → (K → IsScene r file) → (i : Item) → LowItem i → (K → AreDeclared r (declarations_of i)) → Tells K (item_notes file i) (other_marks i)
   item_told file scene (tree.structure s) l d = known (fields_told file (λ k. scene k.0) s.fields [] (λ k. fields_are r file s.fields [] s.fields (d k.0) k.1) s.fields l.1)
@@ -307,7 +307,7 @@ module _ (t : ℕ) (r : Resolution) where
       let w = file_told file scene (heads_behind x i) rest l.1 (λ k. back _ (declarations_of i) (declarations_in rest) (d k)) in
       record {
         most = omega (arith, a, b, c, e, f, v.most, w.most);
-        same = λ k h. let p = v.same k (left r (item_notes file i) (items_notes file rest) h) in let q = w.same k (right r (item_notes file i) (items_notes file rest) h) in omega (arith, a, b, c, e, f, p, q);
+        same = λ k h. let p = v.same k (left _ (item_notes file i) (items_notes file rest) h) in let q = w.same k (right _ (item_notes file i) (items_notes file rest) h) in omega (arith, a, b, c, e, f, p, q);
       }
 
   program_told : (tokens : ℕ) (items : List Item) → told t (program_notes tokens items) ≡ told t (heads_notes no_heads items) + told t (items_notes (file_scope items) items)

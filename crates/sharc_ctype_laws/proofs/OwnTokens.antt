@@ -1,5 +1,5 @@
 -- In a tree at its tokens no two names have one token: so notes without a fault say what the tokens name, and each declaration is found by its token.
-use Rattle.sharc_ctype_laws.proofs.{Imports.{◌≡◌, ⊎_elim, ℕ, ◌+◌, ◌≤◌, ◌<◌, zero, suc, Bool, true, false, cond, List, [], ◌∷◌, ◌++◌, length, fold, get_or, replicate, refl, ap, sym, ◌∙◌, subst, arith, Some, eq-eqb, ne_eqb, get_or-set_other, get_or-set_same, length-set, set, cases_eq, cases_lt, length-replicate, AllByRecursion, Keyword, Scast, Token, TokenKind, Declaration, IsLow, Mark, a_name, a_cast, keyword_marks, kind_marks, marks_from, name_marks, type_marks, declaration_marks, items_marks, IsPlaced, Program, Named, Note, fault, refers, yields, Findings, is_free, noted, faults, notes_about, nothing_found, Resolution, IsResolved, declared_at, named_at, together}, Counts.{one, told, written, told_refers, told_yields}, Exact.program_most, Held.{Held, no_faults}}
+use Rattle.sharc_ctype_laws.proofs.{Imports.{◌≡◌, ⊎_elim, ℕ, ◌+◌, ◌≤◌, ◌<◌, zero, suc, Bool, true, false, cond, List, [], ◌∷◌, ◌++◌, length, fold, get_or, replicate, refl, ap, sym, ◌∙◌, subst, arith, Some, eq-eqb, ne_eqb, get_or-set_other, get_or-set_same, length-set, set, cases_eq, cases_lt, length-replicate, AllByRecursion, Keyword, Scast, Token, TokenKind, Declaration, IsLow, Mark, a_name, a_cast, keyword_marks, kind_marks, marks_from, name_marks, type_marks, declaration_marks, items_marks, IsPlaced, Program, Named, Note, fault, refers, yields, Findings, is_free, noted, faults, notes_about, nothing_found, Resolution, IsResolved, declared_at, named_at, together}, Counts.{one, told, written, told_refers, told_yields}, Exact.program_most, Held.{Held, Kept, no_faults}}
 use Rattle.sharc_tree.specs.Marks.{number_of}
 use Rattle.sharc_tree.specs.Tree as tree
 
@@ -134,7 +134,7 @@ IsOpen f list = (t : ℕ) → 0 < told t list → get_or f.named t Named.Known �
 
 held_by : (r : Resolution) (f : Findings) (list : List Note) → ((t : ℕ) → told t list ≤ 1) → ((t : ℕ) → 0 < told t list → t < length f.named) → IsOpen f list → faults list ≡ []
     → ((t : ℕ) → named_at r t ≡ get_or (fold noted f list).named t Named.Known) → Held r list
-unfolding Held
+unfolding Kept
 held_by r f [] once within free clean is = tt
 held_by r f (fault place code ∷ rest) once within free clean is = absurd (no_faults _ _ clean)
 held_by r f (refers n what ∷ rest) once within free clean is =
