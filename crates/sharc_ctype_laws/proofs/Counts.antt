@@ -1,5 +1,5 @@
 -- How often notes refer to a token, and how often a tree has a name there.
-use Rattle.sharc_ctype_laws.proofs.Imports.{◌≡◌, ℕ, ◌+◌, ◌≤◌, ◌==◌, Bool, true, false, cond, List, [], ◌∷◌, ◌++◌, refl, sym, ◌∙◌, arith, Option, Some, None, Mark, a_name, a_cast, Expression, Base, FaultCode, Named, Need, Kind, object, called, used_call, misfit_of, misfit, fits, unmet, unagreed, Note, fault, refers, yields, fault_unless, fault_where}
+use Rattle.sharc_ctype_laws.proofs.Imports.{◌≡◌, ℕ, ◌+◌, ◌==◌, Bool, true, false, cond, List, [], ◌∷◌, ◌++◌, refl, arith, Option, Some, None, Mark, a_name, a_cast, Expression, Base, FaultCode, Named, Need, Kind, object, called, used_call, misfit_of, misfit, fits, unmet, unagreed, Note, fault, refers, yields, fault_unless, fault_where}
 
 unfoldable pub one : ℕ → ℕ → ℕ
 one token n = cond (n == token) 1 0
@@ -109,37 +109,3 @@ quiet_unagreed t want e k = quiet_unless t _ _ _
 
 pub quiet_both : (t : ℕ) (a b : List Note) → told t a ≡ 0 → told t b ≡ 0 → told t (a ++ b) ≡ 0
 quiet_both t a b h k = let e = told-append t a b in omega (arith, e, h, k)
-
--- at most as often
-
-pub side : (t : ℕ) (a b : List Note) (x y : List Mark) → told t a ≤ written t x → told t b ≤ written t y → told t (a ++ b) ≤ written t (x ++ y)
-side t a b x y h k = let e = told-append t a b in let f = written-append t x y in omega (arith, e, f, h, k)
-
-pub crossed : (t : ℕ) (a b : List Note) (x y : List Mark) → told t a ≤ written t y → told t b ≤ written t x → told t (a ++ b) ≤ written t (x ++ y)
-crossed t a b x y h k = let e = told-append t a b in let f = written-append t x y in omega (arith, e, f, h, k)
-
-pub behind : (t : ℕ) (a b : List Note) (n : ℕ) → told t a ≤ n → told t b ≡ 0 → told t (a ++ b) ≤ n
-behind t a b n h k = let e = told-append t a b in omega (arith, e, h, k)
-
-pub before : (t : ℕ) (a b : List Note) (n : ℕ) → told t a ≡ 0 → told t b ≤ n → told t (a ++ b) ≤ n
-before t a b n h k = let e = told-append t a b in omega (arith, e, h, k)
-
-pub none_most : (t n : ℕ) → told t [] ≤ n
-none_most t n = let e = told_none t in omega (arith, e)
-
--- exactly as often
-
-pub side_is : (t : ℕ) (a b : List Note) (x y : List Mark) → told t a ≡ written t x → told t b ≡ written t y → told t (a ++ b) ≡ written t (x ++ y)
-side_is t a b x y h k = let e = told-append t a b in let f = written-append t x y in omega (arith, e, f, h, k)
-
-pub crossed_is : (t : ℕ) (a b : List Note) (x y : List Mark) → told t a ≡ written t y → told t b ≡ written t x → told t (a ++ b) ≡ written t (x ++ y)
-crossed_is t a b x y h k = let e = told-append t a b in let f = written-append t x y in omega (arith, e, f, h, k)
-
-pub behind_is : (t : ℕ) (a b : List Note) (n : ℕ) → told t a ≡ n → told t b ≡ 0 → told t (a ++ b) ≡ n
-behind_is t a b n h k = let e = told-append t a b in omega (arith, e, h, k)
-
-pub before_is : (t : ℕ) (a b : List Note) (n : ℕ) → told t a ≡ 0 → told t b ≡ n → told t (a ++ b) ≡ n
-before_is t a b n h k = let e = told-append t a b in omega (arith, e, h, k)
-
-pub none_is : (t : ℕ) → told t [] ≡ written t []
-none_is t = told_none t ∙ sym (written_none t)

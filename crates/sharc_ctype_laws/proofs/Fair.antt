@@ -8,8 +8,8 @@ fair_passed : (r : Resolution) (scope : Scope) → IsScene r scope → (list : L
 fair_passed r scope scene [] all h = tt
 fair_passed r scope scene (d ∷ rest) no_arguments h = tt
 fair_passed r scope scene (d ∷ rest) (argument a more) h = (
-  argument_agrees r scope (Some (declared_kind d.written)) a (met_by r scope Need.Value a (judged r scope scene a (left r _ _ (left r _ _ (left r _ _ h)))) (right r _ _ (left r _ _ (left r _ _ h)))) (right r _ _ (left r _ _ h)),
-  fair_passed r scope scene rest more (right r _ _ h),
+  argument_agrees r scope (Some (declared_kind d.written)) a (met_by r scope Need.Value a (judged r scope scene a (left _ _ _ (left _ _ _ (left _ _ _ h)))) (right _ _ _ (left _ _ _ (left _ _ _ h)))) (right _ _ _ (left _ _ _ h)),
+  fair_passed r scope scene rest more (right _ _ _ h),
 )
 
 pub fair_call : (r : Resolution) (scope : Scope) → IsScene r scope → (list : List Declaration) (parameters : List Kind) (all : Arguments) → (list ≡ []) ⊎ (declared_kinds list ≡ parameters) → Held r (notes_of_all scope parameters all) → AllByRecursion (IsFair r) (passed list all)
@@ -20,7 +20,7 @@ pub fair_spawn : (r : Resolution) (scope : Scope) → IsScene r scope → (s : S
     → AllByRecursion (IsFair r) (passed (parameters_named r (named_at r f.site.token)) (argument a no_arguments))
 fair_spawn r scope scene s f a h =
     let c = spawn_callee r scope scene s f a h in
-    let m = met_by r scope Need.Value a (judged r scope scene a (left r _ _ (left r _ _ (left r _ _ h)))) (right r _ _ (left r _ _ (left r _ _ h))) in
+    let m = met_by r scope Need.Value a (judged r scope scene a (left _ _ _ (left _ _ _ (left _ _ _ h)))) (right _ _ _ (left _ _ _ (left _ _ _ h))) in
     let agree : agrees (declared_kind c.declared.written) (kind_at r a) ≡ true = ap (λ k. agrees k (kind_at r a)) c.is ∙ spawn_agrees r scope s f a c m h in
     subst (λ l. AllByRecursion (IsFair r) (passed l (argument a no_arguments))) (sym c.names) (agree, tt)
 
@@ -32,8 +32,8 @@ made_agrees false fine w h = absurd (false≢true (sym (ap not w) ∙ h))
 
 pub right_agrees : (r : Resolution) (scope : Scope) → IsScene r scope → (want : Kind) (given : Option Kind) (x : Right) → given ≡ Some want → Held r (right_notes scope given x) → Agrees r want x
 right_agrees r scope scene want given (value e) is h =
-    argument_agrees r scope (Some want) e (met_by r scope Need.Value e (judged r scope scene e (left r _ _ (left r _ _ h))) (right r _ _ (left r _ _ h)))
-    (subst (λ g. Held r (unagreed g e (met Need.Value (type_of scope e)))) is (right r _ _ h))
+    argument_agrees r scope (Some want) e (met_by r scope Need.Value e (judged r scope scene e (left _ _ _ (left _ _ _ h))) (right _ _ _ (left _ _ _ h)))
+    (subst (λ g. Held r (unagreed g e (met Need.Value (type_of scope e)))) is (right _ _ _ h))
 right_agrees r scope scene want given (malloc s n w) is h =
-    made_agrees (same_kind want (made w)) (is_fine scope.structs Role.Made w) (type_fine r scope [] Role.Made w (right r _ _ (left r _ _ h)))
-    (well r _ s.first.token TypeMismatch (subst (λ g. Held r (fault_unless (is_made g w || not (is_fine scope.structs Role.Made w)) s.first.token TypeMismatch)) is (right r _ _ h)))
+    made_agrees (same_kind want (made w)) (is_fine scope.structs Role.Made w) (type_fine r scope [] Role.Made w (right _ _ _ (left _ _ _ h)))
+    (well _ _ s.first.token TypeMismatch (subst (λ g. Held r (fault_unless (is_made g w || not (is_fine scope.structs Role.Made w)) s.first.token TypeMismatch)) is (right _ _ _ h)))

@@ -29,7 +29,7 @@ next_there list n x rest h = ap (λ m. drop m list) (add-one n) ∙ behind_there
 
 pub fields_are : (r : Resolution) (file : Scope) (all earlier rest : List Declaration) → AreDeclared r rest → Held r (fields_notes file all earlier rest) → AllByRecursion (IsField r file.structs) rest
 fields_are r file all earlier [] d h = tt
-fields_are r file all earlier (x ∷ rest) d h = ((d.0, type_solid r file all Role.Field x.written refl (left r _ _ (left r _ _ h))), fields_are r file all (earlier ++ x ∷ []) rest d.1 (right r _ _ h))
+fields_are r file all earlier (x ∷ rest) d h = ((d.0, type_solid r file all Role.Field x.written refl (left _ _ _ (left _ _ _ h))), fields_are r file all (earlier ++ x ∷ []) rest d.1 (right _ _ _ h))
 
 -- the names of the file
 
@@ -94,38 +94,38 @@ heads_meant r file h (structure s ∷ rest) a d n =
             there (structs_in r.program.items) h.structs s (structs_in rest) a.next_struct,
             a.first_structs s.name.text none ∙ ap (λ b. cond b (Some s) (struct_named (structs_in rest) s.name.text)) (bytes_same s.name.text),
             refl,
-            fields_are r file s.fields [] s.fields (front _ s.fields (declarations_in rest) d) (left r _ _ n),
+            fields_are r file s.fields [] s.fields (front _ s.fields (declarations_in rest) d) (left _ _ _ n),
           ));
       first_structs = λ y none. let k = not_known h.scope.structs h.structs s y none in a.first_structs y k.0 ∙ ap (λ b. cond b (Some s) (struct_named (structs_in rest) y)) k.1;
       next_struct = next_there (structs_in r.program.items) h.structs s (structs_in rest) a.next_struct;
       next_global = a.next_global;
       next_function = a.next_function;
     })
-    (back _ s.fields (declarations_in rest) d) (right r _ _ n)
+    (back _ s.fields (declarations_in rest) d) (right _ _ _ n)
 heads_meant r file h (global x ∷ rest) a d n =
     heads_meant r file (behind h (global x)) rest
     (record {
       names = entry_meant r file.structs h.scope.names (global_entry h.globals x) a.names
-          (refl, there (globals_in r.program.items) h.globals x (globals_in rest) a.next_global, type_solid r file [] Role.Global x.declaration.written refl (left r _ _ (left r _ _ (left r _ _ n))));
+          (refl, there (globals_in r.program.items) h.globals x (globals_in rest) a.next_global, type_solid r file [] Role.Global x.declaration.written refl (left _ _ _ (left _ _ _ (left _ _ _ n))));
       structs = a.structs;
       first_structs = a.first_structs;
       next_struct = a.next_struct;
       next_global = next_there (globals_in r.program.items) h.globals x (globals_in rest) a.next_global;
       next_function = a.next_function;
     })
-    d (right r _ _ n)
+    d (right _ _ _ n)
 heads_meant r file h (function x ∷ rest) a d n =
     heads_meant r file (behind h (function x)) rest
     (record {
       names = entry_meant r file.structs h.scope.names (function_entry h.functions x) a.names
-          (x, there (functions_in r.program.items) h.functions x (functions_in rest) a.next_function, refl, type_result r file [] x.result (left r _ _ (left r _ _ (left r _ _ (left r _ _ n)))), refl);
+          (x, there (functions_in r.program.items) h.functions x (functions_in rest) a.next_function, refl, type_result r file [] x.result (left _ _ _ (left _ _ _ (left _ _ _ (left _ _ _ n)))), refl);
       structs = a.structs;
       first_structs = a.first_structs;
       next_struct = a.next_struct;
       next_global = a.next_global;
       next_function = next_there (functions_in r.program.items) h.functions x (functions_in rest) a.next_function;
     })
-    (back _ (declarations_of (function x)) (declarations_in rest) d) (right r _ _ n)
+    (back _ (declarations_of (function x)) (declarations_in rest) d) (right _ _ _ n)
 
 known_names : (r : Resolution) (structs : StructTable) (scope : Scope) (b : Bool) → AreMeant r structs scope.names → AreMeant r structs (cond b scope (with_conditions scope)).names
 known_names r structs scope true all = all
@@ -148,17 +148,17 @@ file_scene r d h =
 parameters_meant : (r : Resolution) (block before : ℕ) (scope : Scope) → IsScene r scope → (list : List Declaration) → AreDeclared r list → Held r (parameters_notes block before scope list) → AreMeant r scope.structs (with_parameters block scope.names list)
 parameters_meant r block before scope scene [] d h = scene.names
 parameters_meant r block before scope scene (x ∷ rest) d h =
-    let m = declared_meant r scope.structs block x scope.names scene.names d.0 (type_solid r scope [] Role.Parameter x.written refl (left r _ _ (left r _ _ (left r _ _ h)))) in
-    parameters_meant r block (before + 1) (with_names scope (declared block x scope.names)) (scene_with r scope scene (declared block x scope.names) m) rest d.1 (right r _ _ h)
+    let m = declared_meant r scope.structs block x scope.names scene.names d.0 (type_solid r scope [] Role.Parameter x.written refl (left _ _ _ (left _ _ _ (left _ _ _ h)))) in
+    parameters_meant r block (before + 1) (with_names scope (declared block x scope.names)) (scene_with r scope scene (declared block x scope.names) m) rest d.1 (right _ _ _ h)
 
 pub body_scene : (r : Resolution) (file : Scope) → IsScene r file → (f : Function) → AreDeclared r f.parameters → Held r (function_notes file f) → IsScene r (in_body file f)
-body_scene r file scene f d h = scene_with r file scene (with_parameters (length file.names) file.names f.parameters) (parameters_meant r (length file.names) 0 file scene f.parameters d (right r _ _ (left r _ _ (left r _ _ h))))
+body_scene r file scene f d h = scene_with r file scene (with_parameters (length file.names) file.names f.parameters) (parameters_meant r (length file.names) 0 file scene f.parameters d (right _ _ _ (left _ _ _ (left _ _ _ h))))
 
 -- what holds of each function of which no fault is noted holds of all
 pub each_function : (r : Resolution) (file : Scope) (P : Function → Type 0) → ((f : Function) → AreDeclared r (declarations_of (function f)) → Held r (function_notes file f) → P f)
     → (items : List Item) → AreDeclared r (declarations_in items) → Held r (items_notes file items) → AllByRecursion P (functions_in items)
 each_function r file P step [] d h = tt
-each_function r file P step (structure s ∷ rest) d h = each_function r file P step rest (back _ s.fields (declarations_in rest) d) (right r _ _ h)
-each_function r file P step (global g ∷ rest) d h = each_function r file P step rest d (right r _ _ h)
+each_function r file P step (structure s ∷ rest) d h = each_function r file P step rest (back _ s.fields (declarations_in rest) d) (right _ _ _ h)
+each_function r file P step (global g ∷ rest) d h = each_function r file P step rest d (right _ _ _ h)
 each_function r file P step (function f ∷ rest) d h =
-    (step f (front _ (declarations_of (function f)) (declarations_in rest) d) (left r _ _ h), each_function r file P step rest (back _ (declarations_of (function f)) (declarations_in rest) d) (right r _ _ h))
+    (step f (front _ (declarations_of (function f)) (declarations_in rest) d) (left _ _ _ h), each_function r file P step rest (back _ (declarations_of (function f)) (declarations_in rest) d) (right _ _ _ h))

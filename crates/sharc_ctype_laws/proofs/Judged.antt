@@ -23,8 +23,8 @@ pub record IsNamed (r : Resolution) (i : Identifier) (o : Option Entry) : Type 0
   pub not_main : is_main entry.meaning ≡ false
 
 pub named_by : (r : Resolution) (i : Identifier) (o : Option Entry) → Held r (name_notes i.site.token o) → IsNamed r i o
-named_by r i None h = absurd (no_fault r _ _ _ h)
-named_by r i (Some e) h = record { entry = e; found = refl; names = head_named r _ _ _ h; not_main = not_wrong r (is_main e.meaning) i.site.token BadForm (behind_head r _ _ _ h) }
+named_by r i None h = absurd (no_fault _ _ _ _ h)
+named_by r i (Some e) h = record { entry = e; found = refl; names = head_named _ _ _ _ h; not_main = not_wrong _ (is_main e.meaning) i.site.token BadForm (behind_head _ _ _ _ h) }
 
 solid_global : (structs : StructTable) (f : GlobalForm) (k : Kind) → IsSolid structs k → IsSolid structs (global_kind f k)
 solid_global structs (Array at n) (array b stars) s = s
@@ -91,7 +91,7 @@ met_by r scope n a j h =
 
 value_call_judged : (r : Resolution) (scope : Scope) (s : Span) (w : ValueCall) (a : Expression) → IsJudged r scope a → Held r (notes_of scope (tree.on_value s w a)) → IsJudged r scope (tree.on_value s w a)
 value_call_judged r scope s w a j h =
-    let m = met_by r scope Need.Integer a j (right r _ _ h) in
+    let m = met_by r scope Need.Integer a j (right _ _ _ h) in
     judge r scope (tree.on_value s w a) void refl (ap value_call_kind m.met) (inr (refl, s.first.token, refl)) (printed_or_joined j.has (integer_is (kind_at r a) m.fits))
 
 -- lvalues
@@ -102,7 +102,7 @@ pub record IsLvalue (r : Resolution) (scope : Scope) (a : Expression) : Type 0 w
 
 pub lvalue_by : (r : Resolution) (scope : Scope) (a : Expression) → IsJudged r scope a → Held r (place_notes scope.names a) → IsLvalue r scope a
 lvalue_by r scope a j h =
-    let p = well r (is_place scope.names a) (place a) NoLvalue h in
+    let p = well _ (is_place scope.names a) (place a) NoLvalue h in
     record {
       lvalue = (and_parts (is_lvalue a) (not (names_function scope.names (without_parentheses a))) p).0;
       kind = ap (λ b. cond b (type_of scope a) None) p ∙ j.typed;
@@ -115,8 +115,8 @@ has_place_call r s Free a k l f h = freed l h (pointer_is k f)
 
 place_call_judged : (r : Resolution) (scope : Scope) (s : Span) (w : PlaceCall) (a : Expression) → IsJudged r scope a → Held r (notes_of scope (tree.on_place s w a)) → IsJudged r scope (tree.on_place s w a)
 place_call_judged r scope s w a j h =
-    let l = lvalue_by r scope a j (right r _ _ (left r _ _ h)) in
-    let f = well r (suits w (kind_at r a)) s.first.token BadForm (subst (λ t. Held r (place_call_notes s.first.token w t)) l.kind (right r _ _ h)) in
+    let l = lvalue_by r scope a j (right _ _ _ (left _ _ _ h)) in
+    let f = well _ (suits w (kind_at r a)) s.first.token BadForm (subst (λ t. Held r (place_call_notes s.first.token w t)) l.kind (right _ _ _ h)) in
     judge r scope (tree.on_place s w a) void refl (ap (place_call_kind w) l.kind ∙ ap (λ b. cond b (Some void) None) f) (inr (refl, s.first.token, refl)) (has_place_call r s w a (kind_at r a) l.lvalue f j.has)
 
 -- casts
@@ -126,14 +126,14 @@ record IsKept (r : Resolution) (t : WrittenType) (k : Kind) : Type 0 where
   kept : same_kind k (declared_kind t) ≡ true
 
 kept_by : (r : Resolution) (word at : ℕ) (t : WrittenType) (k : Kind) (b : Bool) → is_pointer k ≡ b → Held r (cond b (fault_unless (same_kind k (declared_kind t) || false) at TypeMismatch) (fault word BadForm ∷ [])) → IsKept r t k
-kept_by r word at t k true p h = record { pointer = p; kept = ⊎_elim (λ e. e) (λ e. absurd (false≢true e)) (or_cases (same_kind k (declared_kind t)) false (well r _ at TypeMismatch h)) }
-kept_by r word at t k false p h = absurd (no_fault r _ _ _ h)
+kept_by r word at t k true p h = record { pointer = p; kept = ⊎_elim (λ e. e) (λ e. absurd (false≢true e)) (or_cases (same_kind k (declared_kind t)) false (well _ _ at TypeMismatch h)) }
+kept_by r word at t k false p h = absurd (no_fault _ _ _ _ h)
 
 cast_judged : (r : Resolution) (scope : Scope) (s : Span) (t : WrittenType) (a : Expression) → IsJudged r scope a → Held r (notes_of scope (tree.cast s t a)) → IsJudged r scope (tree.cast s t a)
 cast_judged r scope s t a j h =
-    let fine = type_fine r scope [] Role.Cast t (left r _ _ (left r _ _ (left r _ _ h))) in
-    let l = lvalue_by r scope a j (right r _ _ (left r _ _ h)) in
-    let n = subst (λ b. Held r (cast_notes s.first.token b t a (Some (kind_at r a)))) fine (subst (λ k. Held r (cast_notes s.first.token (is_fine scope.structs Role.Cast t) t a k)) l.kind (right r _ _ h)) in
+    let fine = type_fine r scope [] Role.Cast t (left _ _ _ (left _ _ _ (left _ _ _ h))) in
+    let l = lvalue_by r scope a j (right _ _ _ (left _ _ _ h)) in
+    let n = subst (λ b. Held r (cast_notes s.first.token b t a (Some (kind_at r a)))) fine (subst (λ k. Held r (cast_notes s.first.token (is_fine scope.structs Role.Cast t) t a k)) l.kind (right _ _ _ h)) in
     let k = kept_by r s.first.token (place a) t (kind_at r a) (is_pointer (kind_at r a)) refl n in
     let same = one_kind (kind_at r a) (declared_kind t) k.kept in
     let typed : type_of scope (tree.cast s t a) ≡ Some (declared_kind t) =
@@ -165,8 +165,8 @@ solid_fit structs e n k (inr is) f v = absurd (false≢true (sym v ∙ ap (fits 
 
 index_judged : (r : Resolution) (scope : Scope) (s : Span) (a i : Expression) → IsJudged r scope a → IsJudged r scope i → Held r (notes_of scope (tree.index s a i)) → IsJudged r scope (tree.index s a i)
 index_judged r scope s a i ja ji h =
-    let m = met_by r scope Need.Indexed a ja (right r _ _ (left r _ _ (left r _ _ h))) in
-    let n = met_by r scope Need.Integer i ji (right r _ _ h) in
+    let m = met_by r scope Need.Indexed a ja (right _ _ _ (left _ _ _ (left _ _ _ h))) in
+    let n = met_by r scope Need.Integer i ji (right _ _ _ h) in
     judge r scope (tree.index s a i) (element_kind (kind_at r a)) refl (ap₂ element_of m.met n.met)
     (inl (solid_element scope.structs (kind_at r a) (solid_fit scope.structs a Need.Indexed (kind_at r a) ja.valued m.fits refl)))
     (has_index r s a i (kind_at r a) (kind_at r i) m.fits ja.has ji.has (integer_is (kind_at r i) n.fits))
@@ -191,7 +191,7 @@ solid_unary structs _ a k f v = solid_long structs (kinds.is_long k)
 
 unary_judged : (r : Resolution) (scope : Scope) (s : Span) (o : UnaryOperator) (a : Expression) → IsJudged r scope a → Held r (notes_of scope (tree.unary s o a)) → IsJudged r scope (tree.unary s o a)
 unary_judged r scope s o a j h =
-    let m = met_by r scope (operand_need o) a j (right r _ _ h) in
+    let m = met_by r scope (operand_need o) a j (right _ _ _ h) in
     judge r scope (tree.unary s o a) (unary_result o (kind_at r a)) refl (ap (unary_kind o) m.met)
     (inl (solid_unary scope.structs o a (kind_at r a) m.fits j.valued))
     (has_unary r s o a (kind_at r a) m.fits j.has)
@@ -213,11 +213,11 @@ binary_judged : (r : Resolution) (scope : Scope) (s : Span) (o : BinaryOperator)
     → IsJudged r scope (tree.binary s o at a b)
 binary_judged r scope s o at a b ja jb h =
     let c = class_of o in
-    let m = met_by r scope (operands_need (class_of o)) a ja (right r _ _ (left r _ _ (left r _ _ (left r _ _ h)))) in
-    let n = met_by r scope (operands_need (class_of o)) b jb (right r _ _ (left r _ _ h)) in
-    let t = well r (may_join (class_of o) (kind_at r a) (kind_at r b)) (place b) TypeMismatch
+    let m = met_by r scope (operands_need (class_of o)) a ja (right _ _ _ (left _ _ _ (left _ _ _ (left _ _ _ h)))) in
+    let n = met_by r scope (operands_need (class_of o)) b jb (right _ _ _ (left _ _ _ h)) in
+    let t = well _ (may_join (class_of o) (kind_at r a) (kind_at r b)) (place b) TypeMismatch
     (subst (λ z. Held r (binary_notes (class_of o) b (Some (kind_at r a)) z)) n.met
-    (subst (λ z. Held r (binary_notes (class_of o) b z (met (operands_need (class_of o)) (type_of scope b)))) m.met (right r _ _ h))) in
+    (subst (λ z. Held r (binary_notes (class_of o) b z (met (operands_need (class_of o)) (type_of scope b)))) m.met (right _ _ _ h))) in
     judge r scope (tree.binary s o at a b) (binary_result (class_of o) (kind_at r a) (kind_at r b)) refl
     (ap₂ (binary_kind (class_of o)) m.met n.met ∙ ap (λ z. cond z (Some (binary_result (class_of o) (kind_at r a) (kind_at r b))) None) t)
     (inl (solid_binary scope.structs (class_of o) (kind_at r a) (kind_at r b)))
@@ -250,13 +250,13 @@ pub record IsMember (r : Resolution) (structs : StructTable) (struct name : List
 
 member_by : (r : Resolution) (structs : StructTable) (x : List ℕ) (s : StructDefinition) (token : ℕ) (fields : List Declaration) (name : List ℕ) (o : Option Declaration) → struct_named (structs_in r.program.items) x ≡ Some s → s.fields ≡ fields
     → field_of fields name ≡ o → AllByRecursion (IsField r structs) fields → Held r (field_notes token (Some o)) → IsMember r structs x name token (Some o)
-member_by r structs x s token fields name None first same is all h = absurd (no_fault r _ _ _ h)
+member_by r structs x s token fields name None first same is all h = absurd (no_fault _ _ _ _ h)
 member_by r structs x s token fields name (Some d) first same is all h =
-    record { member = d; found = refl; names = head_named r _ _ _ h; is = found_field r structs fields name d all is; of = (s, first, ap (λ l. field_of l name) same ∙ is) }
+    record { member = d; found = refl; names = head_named _ _ _ _ h; is = found_field r structs fields name d all is; of = (s, first, ap (λ l. field_of l name) same ∙ is) }
 
 member_in : (r : Resolution) (structs : StructTable) (token : ℕ) (name x : List ℕ) (m : StructMeaning) → IsStruct r structs x m → Held r (field_notes token (Some (field_of (fields_of m) name))) → IsMember r structs x name token (Some (field_of (fields_of m) name))
 member_in r structs token name x (defined n fields) i h = member_by r structs x i.0 token fields name (field_of fields name) i.2 i.3 refl i.4 h
-member_in r structs token name x known i h = absurd (no_fault r _ _ _ h)
+member_in r structs token name x known i h = absurd (no_fault _ _ _ _ h)
 
 pub member_of : (r : Resolution) (structs : StructTable) (token : ℕ) (name x : List ℕ) (n : ℕ) (m : StructMeaning) → AreStructs r structs structs → struct_of structs x ≡ Some m
     → Held r (field_notes token (field_in structs name (Some (object (Base.Struct x) n)))) → IsMember r structs x name token (field_in structs name (Some (object (Base.Struct x) n)))
@@ -286,7 +286,7 @@ pub record IsFieldUse (r : Resolution) (scope : Scope) (a : Expression) (w : Fie
 
 pub field_member : (r : Resolution) (scope : Scope) → IsScene r scope → (s : Span) (a : Expression) (w : FieldOperator) (n : Identifier) → IsJudged r scope a → Held r (notes_of scope (tree.field s a w n)) → IsFieldUse r scope a w n
 field_member r scope scene s a w n j h =
-    let m = met_by r scope (access_need w) a j (right r _ _ (left r _ _ h)) in
+    let m = met_by r scope (access_need w) a j (right _ _ _ (left _ _ _ h)) in
     let b = struct_behind_is (stars_before w) (kind_at r a) (behind_access w (kind_at r a) m.fits) in
     let met_is : met (access_need w) (type_of scope a) ≡ Some (object (Base.Struct b.0) (stars_before w)) = m.met ∙ ap Some b.1 in
     let k = struct_known scope.structs a (kind_at r a) b.0 (stars_before w) j.valued b.1 in
@@ -296,7 +296,7 @@ field_member r scope scene s a w n j h =
       known = k.0;
       knows = k.1;
       found = subst (λ z. IsMember r scope.structs b.0 n.text n.site.token (field_in scope.structs n.text z)) (sym met_is)
-          (member_of r scope.structs n.site.token n.text b.0 (stars_before w) k.0 scene.structs k.1 (subst (λ z. Held r (field_notes n.site.token (field_in scope.structs n.text z))) met_is (right r _ _ h)));
+          (member_of r scope.structs n.site.token n.text b.0 (stars_before w) k.0 scene.structs k.1 (subst (λ z. Held r (field_notes n.site.token (field_in scope.structs n.text z))) met_is (right _ _ _ h)));
     }
 
 field_judged : (r : Resolution) (scope : Scope) → IsScene r scope → (s : Span) (a : Expression) (w : FieldOperator) (n : Identifier) → IsJudged r scope a → Held r (notes_of scope (tree.field s a w n)) → IsJudged r scope (tree.field s a w n)
@@ -325,7 +325,7 @@ callee_facts : (r : Resolution) (structs : StructTable) (i : Identifier) (n : �
     → Held r (count_notes AsValue i.site.token n (Some parameters)) → called_kind r (named_at r i.site.token) ≡ result → Callee r i parameters result → IsResult structs result
     → (parameters_named r (named_at r i.site.token) ≡ []) ⊎ (declared_kinds (parameters_named r (named_at r i.site.token)) ≡ parameters) → IsCallee r structs i n (Some e)
 callee_facts r structs i n e parameters result takes_is result_is not_main h kind callee sound names =
-    let fits = well r (length parameters == n) i.site.token ArgumentCount h in
+    let fits = well _ (length parameters == n) i.site.token ArgumentCount h in
     let takes_it : takes n (parameters_of e.meaning) ≡ true = ap (takes n) takes_is ∙ fits in
     record {
       parameters = parameters;
@@ -349,16 +349,16 @@ callee_meant r structs i n name block (meaning.function k s) m is not_main h =
 callee_meant r structs i n name block (meaning.condition c) m is not_main h =
     callee_facts r structs i n (record { name = name; block = block; meaning = meaning.condition c }) (condition_parameters c) void refl refl not_main h (ap (called_kind r) is) (of_conditions c is m) (inr refl)
     (inl (ap (parameters_named r) is))
-callee_meant r structs i n name block _ m is not_main h = absurd (no_fault r _ _ _ h)
+callee_meant r structs i n name block _ m is not_main h = absurd (no_fault _ _ _ _ h)
 
 callee_by : (r : Resolution) (structs : StructTable) (names : List Entry) (i : Identifier) (n : ℕ) (o : Option Entry) → AreMeant r structs names → look_up names i.text ≡ o → Held r (callee_notes AsValue i.site.token n o) → IsCallee r structs i n o
-callee_by r structs names i n None all is h = absurd (no_fault r _ _ _ h)
+callee_by r structs names i n None all is h = absurd (no_fault _ _ _ _ h)
 callee_by r structs names i n (Some e) all is h =
-    let rest = behind_head r _ _ _ h in
-    callee_meant r structs i n e.name e.block e.meaning (found_name r structs names i.text e all is) (head_named r _ _ _ h) (not_wrong r (is_main e.meaning) i.site.token BadForm (left r _ _ rest)) (right r _ _ rest)
+    let rest = behind_head _ _ _ _ h in
+    callee_meant r structs i n e.name e.block e.meaning (found_name r structs names i.text e all is) (head_named _ _ _ _ h) (not_wrong _ (is_main e.meaning) i.site.token BadForm (left _ _ _ rest)) (right _ _ _ rest)
 
 pub call_callee : (r : Resolution) (scope : Scope) → IsScene r scope → (s : Span) (f : Identifier) (all : Arguments) → Held r (notes_of scope (tree.call s f all)) → IsCallee r scope.structs f (count all) (look_up scope.names f.text)
-call_callee r scope scene s f all h = callee_by r scope.structs scope.names f (count all) (look_up scope.names f.text) scene.names refl (left r _ _ h)
+call_callee r scope scene s f all h = callee_by r scope.structs scope.names f (count all) (look_up scope.names f.text) scene.names refl (left _ _ _ h)
 
 pub record AreJudged (r : Resolution) (scope : Scope) (want : List Kind) (all : Arguments) : Type 0 where
   pub fine : are_fine scope want all ≡ true
@@ -391,13 +391,13 @@ one_argument r scope (p ∷ more) a rest many j m w later =
     }
 
 pub argument_agrees : (r : Resolution) (scope : Scope) (want : Option Kind) (a : Expression) → IsMet r scope Need.Value a → Held r (unagreed want a (met Need.Value (type_of scope a))) → agreed want (Some (kind_at r a)) ≡ true
-argument_agrees r scope want a m h = well r (agreed want (Some (kind_at r a))) (place a) TypeMismatch (subst (λ t. Held r (unagreed want a t)) m.met h)
+argument_agrees r scope want a m h = well _ (agreed want (Some (kind_at r a))) (place a) TypeMismatch (subst (λ t. Held r (unagreed want a t)) m.met h)
 
 argument_judged : (r : Resolution) (scope : Scope) (want : List Kind) (a : Expression) (rest : Arguments) → length want ≡ count rest + 1 → IsJudged r scope a → AreJudged r scope (drop 1 want) rest → Held r (notes_of_all scope want (argument a rest))
     → AreJudged r scope want (argument a rest)
 argument_judged r scope want a rest many j later h =
-    let m = met_by r scope Need.Value a j (right r _ _ (left r _ _ (left r _ _ h))) in
-    one_argument r scope want a rest many j m (argument_agrees r scope (first_wanted want) a m (right r _ _ (left r _ _ h))) later
+    let m = met_by r scope Need.Value a j (right _ _ _ (left _ _ _ (left _ _ _ h))) in
+    one_argument r scope want a rest many j m (argument_agrees r scope (first_wanted want) a m (right _ _ _ (left _ _ _ h))) later
 
 -- `spawn`
 
@@ -432,31 +432,31 @@ spawned_by r structs i name block (meaning.function k s) m is h =
 spawned_by r structs i name block _ m is h = absurd (false≢true h)
 
 spawn_by : (r : Resolution) (structs : StructTable) (names : List Entry) (word : ℕ) (i : Identifier) (o : Option Entry) → AreMeant r structs names → look_up names i.text ≡ o → Held r (spawn_notes word i.site.token o) → IsSpawned r i o
-spawn_by r structs names word i None all is h = absurd (no_fault r _ _ _ h)
+spawn_by r structs names word i None all is h = absurd (no_fault _ _ _ _ h)
 spawn_by r structs names word i (Some e) all is h =
-    spawned_by r structs i e.name e.block e.meaning (found_name r structs names i.text e all is) (head_named r _ _ _ h) (well r (can_spawn e.meaning) word BadForm (right r _ _ (behind_head r _ _ _ h)))
+    spawned_by r structs i e.name e.block e.meaning (found_name r structs names i.text e all is) (head_named _ _ _ _ h) (well _ (can_spawn e.meaning) word BadForm (right _ _ _ (behind_head _ _ _ _ h)))
 
 -- its name is that of a function
 spawn_names : (r : Resolution) (word : ℕ) (i : Identifier) (o : Option Entry) → Held r (spawn_notes word i.site.token o) → (n : ℕ) × (named_at r i.site.token ≡ Named.Function n)
-spawn_names r word i None h = absurd (no_fault r _ _ _ h)
-spawn_names r word i (Some e) h = by e.meaning (head_named r _ _ _ h) (well r (can_spawn e.meaning) word BadForm (right r _ _ (behind_head r _ _ _ h)))
+spawn_names r word i None h = absurd (no_fault _ _ _ _ h)
+spawn_names r word i (Some e) h = by e.meaning (head_named _ _ _ _ h) (well _ (can_spawn e.meaning) word BadForm (right _ _ _ (behind_head _ _ _ _ h)))
   where
     by : (m : Meaning) → named_at r i.site.token ≡ named_of m → can_spawn m ≡ true → (n : ℕ) × (named_at r i.site.token ≡ Named.Function n)
     by (meaning.function k f) is can = (k, is)
     by _ is can = absurd (false≢true can)
 
 pub spawned_name : (r : Resolution) (scope : Scope) (s : Span) (f : Identifier) (a : Expression) → Held r (notes_of scope (tree.spawn s f a)) → (n : ℕ) × (named_at r f.site.token ≡ Named.Function n)
-spawned_name r scope s f a h = spawn_names r s.first.token f (look_up scope.names f.text) (right r _ _ (left r _ _ h))
+spawned_name r scope s f a h = spawn_names r s.first.token f (look_up scope.names f.text) (right _ _ _ (left _ _ _ h))
 
 pub spawn_callee : (r : Resolution) (scope : Scope) → IsScene r scope → (s : Span) (f : Identifier) (a : Expression) → Held r (notes_of scope (tree.spawn s f a)) → IsSpawned r f (look_up scope.names f.text)
-spawn_callee r scope scene s f a h = spawn_by r scope.structs scope.names s.first.token f (look_up scope.names f.text) scene.names refl (right r _ _ (left r _ _ h))
+spawn_callee r scope scene s f a h = spawn_by r scope.structs scope.names s.first.token f (look_up scope.names f.text) scene.names refl (right _ _ _ (left _ _ _ h))
 
 pub spawn_agrees : (r : Resolution) (scope : Scope) (s : Span) (f : Identifier) (a : Expression) (c : IsSpawned r f (look_up scope.names f.text)) → IsMet r scope Need.Value a → Held r (notes_of scope (tree.spawn s f a)) → agrees c.parameter (kind_at r a) ≡ true
-spawn_agrees r scope s f a c m h = argument_agrees r scope (Some c.parameter) a m (subst (λ w. Held r (unagreed w a (met Need.Value (type_of scope a)))) c.wants (right r _ _ h))
+spawn_agrees r scope s f a c m h = argument_agrees r scope (Some c.parameter) a m (subst (λ w. Held r (unagreed w a (met Need.Value (type_of scope a)))) c.wants (right _ _ _ h))
 
 spawn_judged : (r : Resolution) (scope : Scope) → IsScene r scope → (s : Span) (f : Identifier) (a : Expression) → IsJudged r scope a → Held r (notes_of scope (tree.spawn s f a)) → IsJudged r scope (tree.spawn s f a)
 spawn_judged r scope scene s f a j h =
-    let m = met_by r scope Need.Value a j (right r _ _ (left r _ _ (left r _ _ h))) in
+    let m = met_by r scope Need.Value a j (right _ _ _ (left _ _ _ (left _ _ _ h))) in
     let c = spawn_callee r scope scene s f a h in
     let agree = spawn_agrees r scope s f a c m h in
     let typed : type_of scope (tree.spawn s f a) ≡ Some int =
@@ -474,18 +474,18 @@ mutual
   judged r scope scene (tree.parentheses s a) h = parentheses_judged r scope s a (judged r scope scene a h)
   judged r scope scene (tree.call s f all) h =
       let c = call_callee r scope scene s f all h in
-      call_judged r scope s f all c (all_judged r scope scene c.parameters all (subst (λ w. Held r (notes_of_all scope w all)) c.wants (right r _ _ h)) c.many)
-  judged r scope scene (tree.spawn s f a) h = spawn_judged r scope scene s f a (judged r scope scene a (left r _ _ (left r _ _ (left r _ _ h)))) h
-  judged r scope scene (tree.on_value s w a) h = value_call_judged r scope s w a (judged r scope scene a (left r _ _ h)) h
-  judged r scope scene (tree.on_place s w a) h = place_call_judged r scope s w a (judged r scope scene a (lvalue_held r scope a (left r _ _ (left r _ _ h)) (right r _ _ (left r _ _ h)))) h
-  judged r scope scene (tree.cast s t a) h = cast_judged r scope s t a (judged r scope scene a (lvalue_held r scope a (right r _ _ (left r _ _ (left r _ _ h))) (right r _ _ (left r _ _ h)))) h
-  judged r scope scene (tree.index s a i) h = index_judged r scope s a i (judged r scope scene a (left r _ _ (left r _ _ (left r _ _ h)))) (judged r scope scene i (right r _ _ (left r _ _ h))) h
-  judged r scope scene (tree.field s a w n) h = field_judged r scope scene s a w n (judged r scope scene a (left r _ _ (left r _ _ h))) h
-  judged r scope scene (tree.unary s o a) h = unary_judged r scope s o a (judged r scope scene a (left r _ _ h)) h
+      call_judged r scope s f all c (all_judged r scope scene c.parameters all (subst (λ w. Held r (notes_of_all scope w all)) c.wants (right _ _ _ h)) c.many)
+  judged r scope scene (tree.spawn s f a) h = spawn_judged r scope scene s f a (judged r scope scene a (left _ _ _ (left _ _ _ (left _ _ _ h)))) h
+  judged r scope scene (tree.on_value s w a) h = value_call_judged r scope s w a (judged r scope scene a (left _ _ _ h)) h
+  judged r scope scene (tree.on_place s w a) h = place_call_judged r scope s w a (judged r scope scene a (lvalue_held r scope a (left _ _ _ (left _ _ _ h)) (right _ _ _ (left _ _ _ h)))) h
+  judged r scope scene (tree.cast s t a) h = cast_judged r scope s t a (judged r scope scene a (lvalue_held r scope a (right _ _ _ (left _ _ _ (left _ _ _ h))) (right _ _ _ (left _ _ _ h)))) h
+  judged r scope scene (tree.index s a i) h = index_judged r scope s a i (judged r scope scene a (left _ _ _ (left _ _ _ (left _ _ _ h)))) (judged r scope scene i (right _ _ _ (left _ _ _ h))) h
+  judged r scope scene (tree.field s a w n) h = field_judged r scope scene s a w n (judged r scope scene a (left _ _ _ (left _ _ _ h))) h
+  judged r scope scene (tree.unary s o a) h = unary_judged r scope s o a (judged r scope scene a (left _ _ _ h)) h
   judged r scope scene (tree.binary s o at a b) h =
-      binary_judged r scope s o at a b (judged r scope scene a (left r _ _ (left r _ _ (left r _ _ (left r _ _ h))))) (judged r scope scene b (right r _ _ (left r _ _ (left r _ _ h)))) h
+      binary_judged r scope s o at a b (judged r scope scene a (left _ _ _ (left _ _ _ (left _ _ _ (left _ _ _ h))))) (judged r scope scene b (right _ _ _ (left _ _ _ (left _ _ _ h)))) h
 
   pub all_judged : (r : Resolution) (scope : Scope) → IsScene r scope → (want : List Kind) (all : Arguments) → Held r (notes_of_all scope want all) → length want ≡ count all → AreJudged r scope want all
   all_judged r scope scene want no_arguments h many = no_arguments_judged r scope want many
   all_judged r scope scene want (argument a rest) h many =
-      argument_judged r scope want a rest many (judged r scope scene a (left r _ _ (left r _ _ (left r _ _ h)))) (all_judged r scope scene (drop 1 want) rest (right r _ _ h) (rest_many want (count rest) many)) h
+      argument_judged r scope want a rest many (judged r scope scene a (left _ _ _ (left _ _ _ (left _ _ _ h)))) (all_judged r scope scene (drop 1 want) rest (right _ _ _ h) (rest_many want (count rest) many)) h

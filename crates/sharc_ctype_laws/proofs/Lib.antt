@@ -1,6 +1,5 @@
 mod Imports
 pub mod AllLemmas
-pub mod AtMost
 pub mod Begun
 pub mod Checked
 pub mod Closed
@@ -18,6 +17,7 @@ pub mod OneType
 pub mod OwnTokens
 pub mod OwnVariables
 pub mod Reached
+pub mod Quiet
 pub mod Ruled
 pub mod Scenes
 pub mod Sized

@@ -1,5 +1,5 @@
 -- No two functions have one name, where no fault is noted.
-use Rattle.sharc_ctype_laws.proofs.{Imports.{◌≡◌, ℕ, zero, suc, Bool, true, false, List, [], ◌∷◌, ◌++◌, Some, refl, ap, ◌∙◌, rules, is_some, both_ways, slice_get, if◌then◌else◌, Function, Item, structure, global, function, DefinedTwice, Entry, look_up, Named, sizes_notes, Heads, with_entry, global_entry, function_entry, behind, twice, within, item_head_notes as head_notes, heads_notes, no_heads, items_notes, file_scope, notes_about, functions_in, OneFunctionOfName, same_bytes}, Held.{Clean, clean, clean_left, clean_right, clean_behind, clean_not_wrong}}
+use Rattle.sharc_ctype_laws.proofs.{Imports.{◌≡◌, ℕ, zero, suc, Bool, true, false, List, [], ◌∷◌, ◌++◌, Some, refl, ap, ◌∙◌, rules, is_some, both_ways, slice_get, if◌then◌else◌, Function, Item, structure, global, function, DefinedTwice, Entry, look_up, Named, sizes_notes, Heads, with_entry, global_entry, function_entry, behind, twice, within, item_head_notes as head_notes, heads_notes, no_heads, items_notes, file_scope, notes_about, functions_in, OneFunctionOfName, same_bytes}, Held.{Clean, clean, left, right, behind_head, not_wrong}}
 use Rattle.std.specs.Str.{bytes_eq}
 
 module _ (x : List ℕ) where
@@ -24,13 +24,13 @@ module _ (x : List ℕ) where
   is_new h f c =
       let notes = twice (is_some (look_up h.scope.names f.name.text)) f.name.site.token in
       let rest = within 16384 h.functions f.name.site.token in
-      clean_not_wrong (is_some (look_up h.scope.names f.name.text)) f.name.site.token DefinedTwice (clean_left notes rest (clean_behind f.name.site.token (Named.Function h.functions) (notes ++ rest) c))
+      not_wrong _ (is_some (look_up h.scope.names f.name.text)) f.name.site.token DefinedTwice (left _ notes rest (behind_head _ f.name.site.token (Named.Function h.functions) (notes ++ rest) c))
 
   head_clean : (h : Heads) (i : Item) (rest : List Item) → Clean (heads_notes h (i ∷ rest)) → Clean (head_notes h i)
-  head_clean h i rest c = clean_left (head_notes h i) (heads_notes (behind h i) rest) c
+  head_clean h i rest c = left _ (head_notes h i) (heads_notes (behind h i) rest) c
 
   rest_clean : (h : Heads) (i : Item) (rest : List Item) → Clean (heads_notes h (i ∷ rest)) → Clean (heads_notes (behind h i) rest)
-  rest_clean h i rest c = clean_right (head_notes h i) (heads_notes (behind h i) rest) c
+  rest_clean h i rest c = right _ (head_notes h i) (heads_notes (behind h i) rest) c
 
   -- where the name is known, no later function has it
   none_behind : (h : Heads) (items : List Item) → Clean (heads_notes h items) → knows h.scope.names ≡ true → (k : ℕ) (g : Function) → slice_get (functions_in items) k ≡ Some g → g.name.text ≡ x → ⊥
@@ -62,6 +62,6 @@ module _ (x : List ℕ) where
 pub one_function_of_name : OneFunctionOfName
 one_function_of_name r resolved n k f g a b same =
     let p = r.program in
-    let some = clean_left (heads_notes no_heads p.items ++ items_notes (file_scope p.items) p.items ++ sizes_notes (file_scope p.items).structs 0 p.items) _ (clean (notes_about p) resolved.typed) in
-    let lists = clean_left (heads_notes no_heads p.items ++ items_notes (file_scope p.items) p.items) (sizes_notes (file_scope p.items).structs 0 p.items) some in
-    one_place g.name.text no_heads p.items (clean_left (heads_notes no_heads p.items) (items_notes (file_scope p.items) p.items) lists) n k f g a b same refl
+    let some = left _ (heads_notes no_heads p.items ++ items_notes (file_scope p.items) p.items ++ sizes_notes (file_scope p.items).structs 0 p.items) _ (clean (notes_about p) resolved.typed) in
+    let lists = left _ (heads_notes no_heads p.items ++ items_notes (file_scope p.items) p.items) (sizes_notes (file_scope p.items).structs 0 p.items) some in
+    one_place g.name.text no_heads p.items (left _ (heads_notes no_heads p.items) (items_notes (file_scope p.items) p.items) lists) n k f g a b same refl

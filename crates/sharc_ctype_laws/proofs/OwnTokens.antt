@@ -1,5 +1,6 @@
 -- In a tree at its tokens no two names have one token: so notes without a fault say what the tokens name, and each declaration is found by its token.
-use Rattle.sharc_ctype_laws.proofs.{Imports.{◌≡◌, ⊎_elim, ℕ, ◌+◌, ◌≤◌, ◌<◌, zero, suc, Bool, true, false, cond, List, [], ◌∷◌, ◌++◌, length, fold, get_or, replicate, refl, ap, sym, ◌∙◌, subst, arith, Some, eq-eqb, ne_eqb, get_or-set_other, get_or-set_same, length-set, set, cases_eq, cases_lt, length-replicate, AllByRecursion, Keyword, Scast, Token, TokenKind, Declaration, IsLow, Mark, keyword_marks, kind_marks, marks_from, name_marks, type_marks, declaration_marks, items_marks, IsPlaced, Program, Named, Note, fault, refers, yields, Findings, is_free, noted, faults, notes_about, nothing_found, Resolution, IsResolved, declared_at, named_at, together}, AtMost.program_most, Counts.{one, told, written, written-append, told_refers, told_yields, written_one, written_cast, written_none}, Held.{Held, no_faults}}
+use Rattle.sharc_ctype_laws.proofs.{Imports.{◌≡◌, ⊎_elim, ℕ, ◌+◌, ◌≤◌, ◌<◌, zero, suc, Bool, true, false, cond, List, [], ◌∷◌, ◌++◌, length, fold, get_or, replicate, refl, ap, sym, ◌∙◌, subst, arith, Some, eq-eqb, ne_eqb, get_or-set_other, get_or-set_same, length-set, set, cases_eq, cases_lt, length-replicate, AllByRecursion, Keyword, Scast, Token, TokenKind, Declaration, IsLow, Mark, a_name, a_cast, keyword_marks, kind_marks, marks_from, name_marks, type_marks, declaration_marks, items_marks, IsPlaced, Program, Named, Note, fault, refers, yields, Findings, is_free, noted, faults, notes_about, nothing_found, Resolution, IsResolved, declared_at, named_at, together}, Counts.{one, told, written, told_refers, told_yields}, Exact.program_most, Held.{Held, Kept, no_faults}}
+use Rattle.sharc_tree.specs.Marks.{number_of}
 use Rattle.sharc_tree.specs.Tree as tree
 
 pub one_same : (t : ℕ) → one t t ≡ 1
@@ -13,27 +14,63 @@ one_other t n h = ap (λ b. cond b 1 0) (ne_eqb n t h)
 pub one_low : (t n : ℕ) → one t n ≤ 1
 one_low t n = ⊎_elim (λ e. let f = ap (one t) e in let g = one_same t in omega (arith, f, g)) (λ e. let f = one_other t n e in omega (arith, f)) (cases_eq n t)
 
+-- how many of a list stand at a token
+
+unfoldable pub times : {A : Type 0} → (A → ℕ) → ℕ → List A → ℕ
+times f t [] = 0
+times f t (x ∷ rest) = one t (f x) + times f t rest
+
+times-append : {A : Type 0} (f : A → ℕ) (t : ℕ) (a b : List A) → times f t (a ++ b) ≡ times f t a + times f t b
+unfolding times
+times-append f t [] b = omega arith
+times-append f t (x ∷ rest) b = let e = times-append f t rest b in omega (arith, e)
+
+pub none_most : {A : Type 0} (f : A → ℕ) (t n : ℕ) → times f t [] ≤ n
+unfolding times
+none_most f t n = omega arith
+
+pub side : {A : Type 0} (f : A → ℕ) (t : ℕ) (a b : List A) (x y : List Mark) → times f t a ≤ times number_of t x → times f t b ≤ times number_of t y → times f t (a ++ b) ≤ times number_of t (x ++ y)
+side f t a b x y h k = let d = times-append f t a b in let e = times-append number_of t x y in omega (arith, d, e, h, k)
+
+pub behind : {A : Type 0} (f : A → ℕ) (t : ℕ) (b : List A) (x y : List Mark) → times f t b ≤ times number_of t y → times f t b ≤ times number_of t (x ++ y)
+behind f t b x y h = let e = times-append number_of t x y in omega (arith, e, h)
+
+pub before : {A : Type 0} (f : A → ℕ) (t : ℕ) (b : List A) (x y : List Mark) → times f t b ≤ times number_of t x → times f t b ≤ times number_of t (x ++ y)
+before f t b x y h = let e = times-append number_of t x y in omega (arith, e, h)
+
+pub apart : {A : Type 0} (f : A → ℕ) (t : ℕ) (list : List A) → times f t list ≡ 0 → AllByRecursion (λ x. t ≡ f x → ⊥) list
+unfolding times
+apart f t [] h = tt
+apart f t (x ∷ rest) h = ((λ is. let e = one_same t in let g = ap (one t) is in omega (arith, h, e, g)), apart f t rest (omega (arith, h)))
+
 -- the marks among tokens
 
-keyword_low : (t n : ℕ) (k : Keyword) → written t (keyword_marks k n) ≡ 0
-keyword_low t n Scast = written_cast t n [] ∙ written_none t
-keyword_low t n _ = written_none t
+written_most : (t : ℕ) (list : List Mark) → written t list ≤ times number_of t list
+unfolding written times
+written_most t [] = omega arith
+written_most t (a_name n text ∷ rest) = let e = written_most t rest in omega (arith, e)
+written_most t (a_cast n ∷ rest) = let e = written_most t rest in omega (arith, e)
 
-kind_low : (t n : ℕ) (k : TokenKind) (text : List ℕ) → written t (kind_marks k text n) ≤ one t n
-kind_low t n (TokenKind.Keyword k) text = let e = keyword_low t n k in omega (arith, e)
-kind_low t n TokenKind.Identifier text = let e = written_one t n text in omega (arith, e)
-kind_low t n _ text = let e = written_none t in omega (arith, e)
+keyword_low : (t n : ℕ) (k : Keyword) → times number_of t (keyword_marks k n) ≤ one t n
+unfolding times
+keyword_low t n Scast = omega arith
+keyword_low t n _ = omega arith
+
+kind_low : (t n : ℕ) (k : TokenKind) (text : List ℕ) → times number_of t (kind_marks k text n) ≤ one t n
+unfolding times
+kind_low t n (TokenKind.Keyword k) text = keyword_low t n k
+kind_low t n _ text = omega arith
 
 record AreFew (t n : ℕ) (list : List Token) : Type 0 where
-  once : written t (marks_from n list) ≤ 1
-  low : t < n → written t (marks_from n list) ≡ 0
-  high : n + length list ≤ t → written t (marks_from n list) ≡ 0
+  once : times number_of t (marks_from n list) ≤ 1
+  low : t < n → times number_of t (marks_from n list) ≡ 0
+  high : n + length list ≤ t → times number_of t (marks_from n list) ≡ 0
 
 few : (t n : ℕ) (list : List Token) → AreFew t n list
-few t n [] = let e = written_none t in record { once = omega (arith, e); low = λ h. e; high = λ h. e }
+few t n [] = let e = none_most number_of t 0 in record { once = omega (arith, e); low = λ h. omega (arith, e); high = λ h. omega (arith, e) }
 few t n (x ∷ rest) =
     let f = few t (n + 1) rest in
-    let e = written-append t (kind_marks x.kind x.text n) (marks_from (n + 1) rest) in
+    let e = times-append number_of t (kind_marks x.kind x.text n) (marks_from (n + 1) rest) in
     let k = kind_low t n x.kind x.text in
     let f_once = f.once in
     let one_is = one_low t n in
@@ -46,17 +83,21 @@ few t n (x ∷ rest) =
 -- names of a tree at its tokens
 
 pub record HasOwnTokens (p : Program) : Type 0 where
+  pub all : (t : ℕ) → times number_of t (items_marks p.items) ≤ 1
   pub once : (t : ℕ) → written t (items_marks p.items) ≤ 1
   pub within : (t : ℕ) → 0 < written t (items_marks p.items) → t < length p.tokens.list
 
 pub own_tokens : (p : Program) → IsPlaced p → HasOwnTokens p
 own_tokens p placed = record {
-  once = λ t. subst (λ m. written t m ≤ 1) (sym placed.marked) (few t 0 p.tokens.list).once;
+  all = λ t. subst (λ m. times number_of t m ≤ 1) (sym placed.marked) (few t 0 p.tokens.list).once;
+  once = λ t. subst (λ m. written t m ≤ 1) (sym placed.marked) (let e = written_most t (marks_from 0 p.tokens.list) in let f = (few t 0 p.tokens.list).once in omega (arith, e, f));
   within = λ t h. below t (subst (λ m. 0 < written t m) placed.marked h);
 }
   where
     below : (t : ℕ) → 0 < written t (marks_from 0 p.tokens.list) → t < length p.tokens.list
-    below t h = ⊎_elim (λ less. less) (λ most. let z = (few t 0 p.tokens.list).high (omega (arith, most)) in absurd (omega (arith, z, h))) (cases_lt t (length p.tokens.list))
+    below t h =
+        let e = written_most t (marks_from 0 p.tokens.list) in
+        ⊎_elim (λ less. less) (λ most. let z = (few t 0 p.tokens.list).high (omega (arith, most)) in absurd (omega (arith, z, h, e))) (cases_lt t (length p.tokens.list))
 
 -- what is noted stays: no later note is of the same token
 
@@ -93,7 +134,7 @@ IsOpen f list = (t : ℕ) → 0 < told t list → get_or f.named t Named.Known �
 
 held_by : (r : Resolution) (f : Findings) (list : List Note) → ((t : ℕ) → told t list ≤ 1) → ((t : ℕ) → 0 < told t list → t < length f.named) → IsOpen f list → faults list ≡ []
     → ((t : ℕ) → named_at r t ≡ get_or (fold noted f list).named t Named.Known) → Held r list
-unfolding Held
+unfolding Kept
 held_by r f [] once within free clean is = tt
 held_by r f (fault place code ∷ rest) once within free clean is = absurd (no_faults _ _ clean)
 held_by r f (refers n what ∷ rest) once within free clean is =
@@ -123,49 +164,22 @@ blank (suc n) (suc t) = blank n t
 pub all_held : (r : Resolution) → IsResolved r → HasOwnTokens r.program → IsLow r.program → Held r (notes_about r.program)
 all_held r resolved own low =
     held_by r (nothing_found (length r.program.tokens.list)) (notes_about r.program)
-    (λ t. let m = program_most t (length r.program.tokens.list) r.program.items low in let o = own.once t in omega (arith, m, o))
-    (λ t h. let m = program_most t (length r.program.tokens.list) r.program.items low in let w = own.within t (omega (arith, m, h)) in let l = length-replicate (length r.program.tokens.list) Named.Known in omega (arith, w, l))
+    (λ t. let m = program_most t r (length r.program.tokens.list) r.program.items low in let o = own.once t in omega (arith, m, o))
+    (λ t h. let m = program_most t r (length r.program.tokens.list) r.program.items low in let w = own.within t (omega (arith, m, h)) in let l = length-replicate (length r.program.tokens.list) Named.Known in omega (arith, w, l))
     (λ t h. blank (length r.program.tokens.list) t)
     resolved.typed
     (λ t. ap (λ l. get_or l t Named.Known) resolved.named)
 
 -- declarations
 
-pub times : ℕ → List Declaration → ℕ
-times t [] = 0
-times t (d ∷ rest) = one t d.name.site.token + times t rest
+abbrev pub token_of : Declaration → ℕ
+token_of d = d.name.site.token
 
-times-append : (t : ℕ) (a b : List Declaration) → times t (a ++ b) ≡ times t a + times t b
+pub one_written : (t : ℕ) (d : Declaration) → times token_of t (d ∷ []) ≤ times number_of t (declaration_marks d)
 unfolding times
-times-append t [] b = omega arith
-times-append t (d ∷ rest) b = let e = times-append t rest b in omega (arith, e)
+one_written t d = let e = times-append number_of t (type_marks d.written) (name_marks d.name) in omega (arith, e)
 
-declaration_written : (t : ℕ) (d : Declaration) → one t d.name.site.token ≤ written t (declaration_marks d)
-declaration_written t d = let e = written-append t (type_marks d.written) (name_marks d.name) in let f = written_one t d.name.site.token d.name.text in omega (arith, e, f)
-
-pub one_written : (t : ℕ) (d : Declaration) → times t (d ∷ []) ≤ written t (declaration_marks d)
-unfolding times
-one_written t d = let e = declaration_written t d in omega (arith, e)
-
-pub none_written : (t n : ℕ) → times t [] ≤ n
-unfolding times
-none_written t n = omega arith
-
-pub locals_side : (t : ℕ) (a b : List Declaration) (x y : List Mark) → times t a ≤ written t x → times t b ≤ written t y → times t (a ++ b) ≤ written t (x ++ y)
-locals_side t a b x y h k = let e = times-append t a b in let f = written-append t x y in omega (arith, e, f, h, k)
-
-pub locals_behind : (t : ℕ) (b : List Declaration) (x y : List Mark) → times t b ≤ written t y → times t b ≤ written t (x ++ y)
-locals_behind t b x y h = let f = written-append t x y in omega (arith, f, h)
-
-pub locals_before : (t : ℕ) (b : List Declaration) (x y : List Mark) → times t b ≤ written t x → times t b ≤ written t (x ++ y)
-locals_before t b x y h = let f = written-append t x y in omega (arith, f, h)
-
-apart : (t : ℕ) (list : List Declaration) → times t list ≡ 0 → AllByRecursion (λ d. t ≡ d.name.site.token → ⊥) list
-unfolding times
-apart t [] h = tt
-apart t (d ∷ rest) h = ((λ is. let e = one_same t in let g = ap (one t) is in omega (arith, h, e, g)), apart t rest (omega (arith, h)))
-
-pub found_by_token : (list : List Declaration) → ((t : ℕ) → times t list ≤ 1) → AllByRecursion (λ d. declared_at list d.name.site.token ≡ Some d) list
+pub found_by_token : (list : List Declaration) → ((t : ℕ) → times token_of t list ≤ 1) → AllByRecursion (λ d. declared_at list d.name.site.token ≡ Some d) list
 unfolding times
 found_by_token [] once = tt
 found_by_token (x ∷ rest) once =
@@ -173,6 +187,6 @@ found_by_token (x ∷ rest) once =
       ap (λ b. cond b (Some x) (declared_at rest x.name.site.token)) (eq-eqb x.name.site.token x.name.site.token refl),
       together (λ d. x.name.site.token ≡ d.name.site.token → ⊥) (λ d. declared_at rest d.name.site.token ≡ Some d) (λ d. declared_at (x ∷ rest) d.name.site.token ≡ Some d)
           (λ d ne is. ap (λ b. cond b (Some x) (declared_at rest d.name.site.token)) (ne_eqb x.name.site.token d.name.site.token ne) ∙ is) rest
-          (apart x.name.site.token rest (let o = once x.name.site.token in let s = one_same x.name.site.token in omega (arith, o, s)))
+          (apart token_of x.name.site.token rest (let o = once x.name.site.token in let s = one_same x.name.site.token in omega (arith, o, s)))
           (found_by_token rest (λ t. let o = once t in omega (arith, o))),
     )

@@ -15,9 +15,9 @@ plain_by where_ b n true is s m h = bare where_ b s m (ap (is_allowed where_ b) 
 plain_by where_ b n false is s m h = and_false (same_base b Base.Mutex)
 
 pub plain_type : (r : Resolution) (scope : Scope) (siblings : List Declaration) (where_ : Role) (w : WrittenType) → holds_struct where_ ≡ false → holds_mutex where_ ≡ false → Held r (type_notes scope siblings where_ w) → is_aggregate (declared_kind w) ≡ false
-plain_type r scope siblings where_ w s m h = plain_by where_ w.ctype.base (stars_of w) (stars_of w == 0) refl s m (well r (allowed_there where_ w) w.span.first.token TypeNotAllowed (right r _ _ (left r _ _ h)))
+plain_type r scope siblings where_ w s m h = plain_by where_ w.ctype.base (stars_of w) (stars_of w == 0) refl s m (well _ (allowed_there where_ w) w.span.first.token TypeNotAllowed (right _ _ _ (left _ _ _ h)))
 
 pub plain_parameters : (r : Resolution) (block before : ℕ) (scope : Scope) (list : List Declaration) → Held r (parameters_notes block before scope list) → AllByRecursion Plain list
 plain_parameters r block before scope [] h = tt
 plain_parameters r block before scope (d ∷ rest) h =
-    (plain_type r scope [] Role.Parameter d.written refl refl (left r _ _ (left r _ _ (left r _ _ h))), plain_parameters r block (before + 1) (with_names scope (declared block d scope.names)) rest (right r _ _ h))
+    (plain_type r scope [] Role.Parameter d.written refl refl (left _ _ _ (left _ _ _ (left _ _ _ h))), plain_parameters r block (before + 1) (with_names scope (declared block d scope.names)) rest (right _ _ _ h))

@@ -73,19 +73,19 @@ found_field r structs (x ∷ rest) name d all is =
 
 some : (r : Resolution) (structs : StructTable) (b : Base) (e : Expression) → Stands structs b → Held r (misfit_of b e) → ⊥
 some r structs Void e s h = s
-some r structs _ e s h = no_fault r _ _ _ h
+some r structs _ e s h = no_fault _ _ _ _ h
 
 of_object : (r : Resolution) (structs : StructTable) (b : Base) (e : Expression) (z : Bool) → Stands structs b → Held r (cond z (misfit_of b e) (mismatch e)) → ⊥
 of_object r structs b e true s h = some r structs b e s h
-of_object r structs b e false s h = no_fault r _ _ _ h
+of_object r structs b e false s h = no_fault _ _ _ _ h
 
 of_solid : (r : Resolution) (structs : StructTable) (k : Kind) (e : Expression) → IsSolid structs k → Held r (misfit k e) → ⊥
 of_solid r structs (object b n) e s h = of_object r structs b e (n == 0) s h
-of_solid r structs _ e s h = no_fault r _ _ _ h
+of_solid r structs _ e s h = no_fault _ _ _ _ h
 
 pub misfit_told : (r : Resolution) (structs : StructTable) (k : Kind) (e : Expression) → IsValued structs e k → Held r (misfit k e) → ⊥
 misfit_told r structs k e (inl s) h = of_solid r structs k e s h
-misfit_told r structs k e (inr (is, word, c)) h = no_fault r word BadForm [] (subst (λ w. Held r (used_call w)) c (subst (λ z. Held r (misfit z e)) is h))
+misfit_told r structs k e (inr (is, word, c)) h = no_fault _ word BadForm [] (subst (λ w. Held r (used_call w)) c (subst (λ z. Held r (misfit z e)) is h))
 
 by_fit : (r : Resolution) (structs : StructTable) (need : Need) (e : Expression) (k : Kind) (b : Bool) → fits need k ≡ b → IsValued structs e k → Held r (cond b [] (misfit k e)) → fits need k ≡ true
 by_fit r structs need e k true f v h = f
@@ -100,7 +100,7 @@ need_met need k t is f = ap (met need) is ∙ ap (λ b. cond b (Some k) None) f
 -- written types
 
 a_struct_known : (r : Resolution) (token : ℕ) (o : Option StructMeaning) → Held r (struct_note token o) → (m : StructMeaning) × (o ≡ Some m)
-a_struct_known r token None h = absurd (no_fault r _ _ _ h)
+a_struct_known r token None h = absurd (no_fault _ _ _ _ h)
 a_struct_known r token (Some m) h = (m, refl)
 
 known_by : (o : Option StructMeaning) (m : StructMeaning) → o ≡ Some m → is_some o ≡ true
@@ -121,10 +121,10 @@ result_stands r structs token (Struct name) stars h a = inl (a_struct_known r to
 result_stands r structs token _ stars h a = inl tt
 
 pub type_base : (r : Resolution) (scope : Scope) (siblings : List Declaration) (where_ : Role) (w : WrittenType) → Held r (type_notes scope siblings where_ w) → Held r (base_notes scope.structs w.base.token w.ctype.base)
-type_base r scope siblings where_ w h = left r _ _ (left r _ _ h)
+type_base r scope siblings where_ w h = left _ _ _ (left _ _ _ h)
 
 pub type_allowed : (r : Resolution) (scope : Scope) (siblings : List Declaration) (where_ : Role) (w : WrittenType) → Held r (type_notes scope siblings where_ w) → allowed_there where_ w ≡ true
-type_allowed r scope siblings where_ w h = well r (allowed_there where_ w) w.span.first.token TypeNotAllowed (right r _ _ (left r _ _ h))
+type_allowed r scope siblings where_ w h = well _ (allowed_there where_ w) w.span.first.token TypeNotAllowed (right _ _ _ (left _ _ _ h))
 
 pub type_fine : (r : Resolution) (scope : Scope) (siblings : List Declaration) (where_ : Role) (w : WrittenType) → Held r (type_notes scope siblings where_ w) → is_fine scope.structs where_ w ≡ true
 type_fine r scope siblings where_ w h =

@@ -118,11 +118,11 @@ type_sized items w b s = ap (λ n. cond b n 1) (base_sized items w.ctype.base s)
 
 items_sized : (r : Resolution) (items rest : List Item) → Held r (items_notes (file_scope items) rest) → all_sizes (structs_in items) (globals_in rest) ≤ cells_of_all (file_scope items).structs rest
 items_sized r items [] h = omega arith
-items_sized r items (structure s ∷ rest) h = let later = items_sized r items rest (right r (item_notes (file_scope items) (structure s)) (items_notes (file_scope items) rest) h) in omega (arith, later)
-items_sized r items (function f ∷ rest) h = let later = items_sized r items rest (right r (item_notes (file_scope items) (function f)) (items_notes (file_scope items) rest) h) in omega (arith, later)
+items_sized r items (structure s ∷ rest) h = let later = items_sized r items rest (right _ (item_notes (file_scope items) (structure s)) (items_notes (file_scope items) rest) h) in omega (arith, later)
+items_sized r items (function f ∷ rest) h = let later = items_sized r items rest (right _ (item_notes (file_scope items) (function f)) (items_notes (file_scope items) rest) h) in omega (arith, later)
 items_sized r items (global x ∷ rest) h =
-    let later = items_sized r items rest (right r (item_notes (file_scope items) (global x)) (items_notes (file_scope items) rest) h) in
-    let solid : IsSolid (file_scope items).structs (declared_kind x.declaration.written) = type_solid r (file_scope items) [] Role.Global x.declaration.written refl (left r _ _ (left r _ _ (left r _ _ h))) in
+    let later = items_sized r items rest (right _ (item_notes (file_scope items) (global x)) (items_notes (file_scope items) rest) h) in
+    let solid : IsSolid (file_scope items).structs (declared_kind x.declaration.written) = type_solid r (file_scope items) [] Role.Global x.declaration.written refl (left _ _ _ (left _ _ _ (left _ _ _ h))) in
     let same : global_size (structs_in items) x ≡ elements_of x.form * type_cells (file_scope items).structs x.declaration.written = ap (λ n. elements_of x.form * n) (type_sized items x.declaration.written (stars_of x.declaration.written == 0) solid) in
     omega (arith, later, same)
 

@@ -8,4 +8,4 @@ as_value r scope (tree.call s f all) is h = absurd (no_call is)
 as_value r scope _ is h = h
 
 pub lvalue_held : (r : Resolution) (scope : Scope) (a : Expression) → Held r (notes_at AsLvalue scope a) → Held r (place_notes scope.names a) → Held r (notes_of scope a)
-lvalue_held r scope a h p = as_value r scope a (well r (is_place scope.names a) (place a) NoLvalue p) h
+lvalue_held r scope a h p = as_value r scope a (well _ (is_place scope.names a) (place a) NoLvalue p) h

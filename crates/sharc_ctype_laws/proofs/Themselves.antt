@@ -44,14 +44,14 @@ pub record AreHeadsNamed (r : Resolution) (h : Heads) (rest : List Item) : Type 
 pub heads_named : (r : Resolution) (h : Heads) (rest : List Item) → Held r (heads_notes h rest) → AreHeadsNamed r h rest
 heads_named r h [] n = record { structs = none_numbered (StructNamed r) h.structs; globals = none_numbered (GlobalNamed r) h.globals; functions = none_numbered (FunctionNamed r) h.functions }
 heads_named r h (structure s ∷ rest) n =
-    let later = heads_named r (behind h (structure s)) rest (right r (item_head_notes h (structure s)) (heads_notes (behind h (structure s)) rest) n) in
-    record { structs = one_numbered (StructNamed r) h.structs s (structs_in rest) (head_named r _ _ _ (left r (item_head_notes h (structure s)) (heads_notes (behind h (structure s)) rest) n)) later.structs; globals = later.globals; functions = later.functions }
+    let later = heads_named r (behind h (structure s)) rest (right _ (item_head_notes h (structure s)) (heads_notes (behind h (structure s)) rest) n) in
+    record { structs = one_numbered (StructNamed r) h.structs s (structs_in rest) (head_named _ _ _ _ (left _ (item_head_notes h (structure s)) (heads_notes (behind h (structure s)) rest) n)) later.structs; globals = later.globals; functions = later.functions }
 heads_named r h (global g ∷ rest) n =
-    let later = heads_named r (behind h (global g)) rest (right r (item_head_notes h (global g)) (heads_notes (behind h (global g)) rest) n) in
-    record { structs = later.structs; globals = one_numbered (GlobalNamed r) h.globals g (globals_in rest) (head_named r _ _ _ (left r (item_head_notes h (global g)) (heads_notes (behind h (global g)) rest) n)) later.globals; functions = later.functions }
+    let later = heads_named r (behind h (global g)) rest (right _ (item_head_notes h (global g)) (heads_notes (behind h (global g)) rest) n) in
+    record { structs = later.structs; globals = one_numbered (GlobalNamed r) h.globals g (globals_in rest) (head_named _ _ _ _ (left _ (item_head_notes h (global g)) (heads_notes (behind h (global g)) rest) n)) later.globals; functions = later.functions }
 heads_named r h (function f ∷ rest) n =
-    let later = heads_named r (behind h (function f)) rest (right r (item_head_notes h (function f)) (heads_notes (behind h (function f)) rest) n) in
-    record { structs = later.structs; globals = later.globals; functions = one_numbered (FunctionNamed r) h.functions f (functions_in rest) (head_named r _ _ _ (left r (item_head_notes h (function f)) (heads_notes (behind h (function f)) rest) n)) later.functions }
+    let later = heads_named r (behind h (function f)) rest (right _ (item_head_notes h (function f)) (heads_notes (behind h (function f)) rest) n) in
+    record { structs = later.structs; globals = later.globals; functions = one_numbered (FunctionNamed r) h.functions f (functions_in rest) (head_named _ _ _ _ (left _ (item_head_notes h (function f)) (heads_notes (behind h (function f)) rest) n)) later.functions }
 
 -- fields, parameters and locals
 
@@ -61,12 +61,12 @@ Own r form d = named_at r d.name.site.token ≡ form d.name.site.token
 pub own_fields : (r : Resolution) (scope : Scope) (all earlier rest : List Declaration) → Held r (fields_notes scope all earlier rest) → AllByRecursion (Own r Named.Field) rest
 own_fields r scope all earlier [] h = tt
 own_fields r scope all earlier (d ∷ rest) h =
-    (head_named r _ _ _ (right r (type_notes scope all Role.Field d.written) _ (left r (one_field_notes scope all earlier d) (fields_notes scope all (earlier ++ d ∷ []) rest) h)), own_fields r scope all (earlier ++ d ∷ []) rest (right r _ _ h))
+    (head_named _ _ _ _ (right _ (type_notes scope all Role.Field d.written) _ (left _ (one_field_notes scope all earlier d) (fields_notes scope all (earlier ++ d ∷ []) rest) h)), own_fields r scope all (earlier ++ d ∷ []) rest (right _ _ _ h))
 
 pub own_parameters : (r : Resolution) (block n : ℕ) (scope : Scope) (list : List Declaration) → Held r (parameters_notes block n scope list) → AllByRecursion (Own r Named.Variable) list
 own_parameters r block n scope [] h = tt
 own_parameters r block n scope (d ∷ rest) h =
-    (head_named r _ _ _ (right r (type_notes scope [] Role.Parameter d.written) _ (left r _ _ (left r _ _ h))), own_parameters r block (n + 1) (with_names scope (declared block d scope.names)) rest (right r _ _ h))
+    (head_named _ _ _ _ (right _ (type_notes scope [] Role.Parameter d.written) _ (left _ _ _ (left _ _ _ h))), own_parameters r block (n + 1) (with_names scope (declared block d scope.names)) rest (right _ _ _ h))
 
 pub itself : (r : Resolution) (form : ℕ → Named) (list : List Declaration) → AllByRecursion (Own r form) list → AreDeclared r list → AllByRecursion (IsItself r form) list
 itself r form list o d = together (Own r form) _ (IsItself r form) (λ x p q. (p, q)) list o d

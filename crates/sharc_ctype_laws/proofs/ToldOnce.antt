@@ -76,26 +76,26 @@ here r t what n rest tells none is = record {
 
 split : (r : Resolution) (t : ℕ) (list : List Note) → Held r list → told t list ≡ 1 → IsSplit r t list
 split r t [] held h = let e = told_none t in absurd (omega (arith, e, h))
-split r t (fault place code ∷ rest) held h = absurd (no_fault r _ _ _ held)
+split r t (fault place code ∷ rest) held h = absurd (no_fault _ _ _ _ held)
 split r t (refers n what ∷ rest) held h =
     let e = told_refers t n what rest in
     let s = one_same t in
-    ⊎_elim (λ is. let g = ap (one t) is in here r t what (refers n what) rest (is, refl) (omega (arith, e, s, g, h)) (ap (named_at r) (sym is) ∙ head_named r n what rest held))
+    ⊎_elim (λ is. let g = ap (one t) is in here r t what (refers n what) rest (is, refl) (omega (arith, e, s, g, h)) (ap (named_at r) (sym is) ∙ head_named _ n what rest held))
     (λ other.
     let z = one_other t n other in
     let x = told_refers t n what [] in
     let y = told_none t in
-    further r t (refers n what) rest (omega (arith, x, y, z)) (split r t rest (behind_head r n what rest held) (omega (arith, e, z, h))))
+    further r t (refers n what) rest (omega (arith, x, y, z)) (split r t rest (behind_head _ n what rest held) (omega (arith, e, z, h))))
     (cases_eq n t)
 split r t (yields n what ∷ rest) held h =
     let e = told_yields t n what rest in
     let s = one_same t in
-    ⊎_elim (λ is. let g = ap (one t) is in here r t what (yields n what) rest (is, refl) (omega (arith, e, s, g, h)) (ap (named_at r) (sym is) ∙ yielded r n what rest held))
+    ⊎_elim (λ is. let g = ap (one t) is in here r t what (yields n what) rest (is, refl) (omega (arith, e, s, g, h)) (ap (named_at r) (sym is) ∙ yielded _ n what rest held))
     (λ other.
     let z = one_other t n other in
     let x = told_yields t n what [] in
     let y = told_none t in
-    further r t (yields n what) rest (omega (arith, x, y, z)) (split r t rest (behind_yielded r n what rest held) (omega (arith, e, z, h))))
+    further r t (yields n what) rest (omega (arith, x, y, z)) (split r t rest (behind_yielded _ n what rest held) (omega (arith, e, z, h))))
     (cases_eq n t)
 
 pub told_once : (r : Resolution) (t : ℕ) → Held r (notes_about r.program) → told t (notes_about r.program) ≡ 1 → IsToldOnce r t

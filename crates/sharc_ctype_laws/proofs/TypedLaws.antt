@@ -1,5 +1,5 @@
 -- The laws of typed programs.
-use Rattle.sharc_ctype_laws.proofs.{Imports.{◌≡◌, ◌++◌, length, Some, arith, refl, AllByRecursion, IsLow, items_marks, in_function, Expression, HasType, NamesOwnVariables, MeetsRules, MeetsGlobals, SpawnsByName, SpawnsNameFunctions, SpawnsThreads, ReachesFunctions, OneType, EachNameOnce, OnlyNames, EachNamesItself, EachNamesOwn, NamesFound, EachNamesFound, EachPathFound, IsPlain, ArePlain, NamesInTypes, SameKinds, MeetsConstraints, MeetsStatements, AllFair, WithinLimits, HasMain, IsClosed, PathsAt, BodyStands, Placing, places_of, places_of_all, EachTypeFound, look_up, type_of, notes_of, IsFair, function_transfers, file_scope, items_notes, notes_about, main_missing, sizes_notes, heads_notes, no_heads, Resolution, IsResolved, functions_in, declarations_in, kind_at, each, together}, AtMost.program_most, Closed.{items_closed, body_stands, cast_stands, none_closed, all_types}, Exact.program_is, Begun.globals_meet, FileScene.{file_scene, each_function}, Forgotten.in_function_all, Held.{Held, left, right, clean, clean_left, clean_right}, Judged.{named_by, spawned_name}, Limited.{few, small, few_cells, main_is}, TypesFound.{each_found, all_declared}, OwnTokens.{HasOwnTokens, own_tokens, all_held}, Reached.{spawned_thread, reached_function}, OwnVariables.{own_variables, none_in_file}, Scenes.IsScene, ToldOnce.{counted, name_counted, name_there, told_once}, Checked.{of_function, items_places, named_items, plain_function, themselves}, Walked.{AreDeclared, JudgedAt}}
+use Rattle.sharc_ctype_laws.proofs.{Imports.{◌≡◌, ◌++◌, length, Some, arith, refl, AllByRecursion, IsLow, items_marks, in_function, Expression, HasType, NamesOwnVariables, MeetsRules, MeetsGlobals, SpawnsByName, SpawnsNameFunctions, SpawnsThreads, ReachesFunctions, OneType, EachNameOnce, OnlyNames, EachNamesItself, EachNamesOwn, NamesFound, EachNamesFound, EachPathFound, IsPlain, ArePlain, NamesInTypes, SameKinds, MeetsConstraints, MeetsStatements, AllFair, WithinLimits, HasMain, IsClosed, PathsAt, BodyStands, Placing, places_of, places_of_all, EachTypeFound, look_up, type_of, notes_of, IsFair, function_transfers, file_scope, items_notes, notes_about, main_missing, sizes_notes, heads_notes, no_heads, Resolution, IsResolved, functions_in, declarations_in, kind_at, each, together}, Closed.{AnyVariable, items_closed, body_stands, cast_stands, none_closed, all_types}, Exact.{program_is, program_most}, Begun.globals_meet, FileScene.{file_scene, each_function}, Forgotten.in_function_all, Held.{Held, left, right, clean}, Judged.{named_by, spawned_name}, Limited.{few, small, few_cells, main_is}, TypesFound.{each_found, all_declared}, OwnTokens.{HasOwnTokens, own_tokens, all_held}, Reached.{spawned_thread, reached_function}, OwnVariables.{own_variables, none_in_file}, Scenes.IsScene, ToldOnce.{counted, name_counted, name_there, told_once}, Checked.{of_function, items_places, named_items, plain_function, themselves}, Walked.{AreDeclared, JudgedAt}}
 use Rattle.sharc_tree.specs.Tree as tree
 use Rattle.sharc_ctype_laws.proofs.OneType as types
 
@@ -16,8 +16,8 @@ pub sound : (r : Resolution) → IsResolved r → HasOwnTokens r.program → IsL
 sound r resolved own low =
     let all = all_held r resolved own low in
     let d = all_declared r own in
-    let items = right r (heads_notes no_heads r.program.items) (items_notes (file_scope r.program.items) r.program.items) (left r _ (sizes_notes (file_scope r.program.items).structs 0 r.program.items) (left r _ _ all)) in
-    record { notes = all; declared = d; heads = left r _ _ (left r _ _ (left r _ _ all)); items = items; scene = file_scene r d items; main = right r _ _ all }
+    let items = right _ (heads_notes no_heads r.program.items) (items_notes (file_scope r.program.items) r.program.items) (left _ _ (sizes_notes (file_scope r.program.items).structs 0 r.program.items) (left _ _ _ all)) in
+    record { notes = all; declared = d; heads = left _ _ _ (left _ _ _ (left _ _ _ all)); items = items; scene = file_scene r d items; main = right _ _ _ all }
 
 all_places : (r : Resolution) → IsSound r → AllByRecursion (JudgedAt r) (places_of_all (file_scope r.program.items) (functions_in r.program.items))
 all_places r s = items_places r (file_scope r.program.items) s.scene r.program.items s.declared s.items
@@ -79,18 +79,18 @@ each_name_once r resolved placed low token c =
 
 pub only_names : OnlyNames
 only_names r resolved placed low token c =
-    let m = program_most token (length r.program.tokens.list) r.program.items low in
+    let m = program_most token r (length r.program.tokens.list) r.program.items low in
     let t = counted token (notes_about r.program) c in
     name_there token (items_marks r.program.items) (omega (arith, m, t))
 
 pub within_limits : WithinLimits
 within_limits p typed =
     let all = clean (notes_about p) typed in
-    let some = clean_left (heads_notes no_heads p.items ++ items_notes (file_scope p.items) p.items ++ sizes_notes (file_scope p.items).structs 0 p.items) _ all in
-    let both_lists = clean_left (heads_notes no_heads p.items ++ items_notes (file_scope p.items) p.items) (sizes_notes (file_scope p.items).structs 0 p.items) some in
-    let counts = few no_heads p.items (omega arith) (omega arith) (omega arith) (clean_left (heads_notes no_heads p.items) (items_notes (file_scope p.items) p.items) both_lists) in
-    let parts = small (file_scope p.items) p.items (clean_right (heads_notes no_heads p.items) (items_notes (file_scope p.items) p.items) both_lists) in
-    let cells = few_cells (file_scope p.items).structs 0 p.items (omega arith) (clean_right (heads_notes no_heads p.items ++ items_notes (file_scope p.items) p.items) (sizes_notes (file_scope p.items).structs 0 p.items) some) in
+    let some = left _ (heads_notes no_heads p.items ++ items_notes (file_scope p.items) p.items ++ sizes_notes (file_scope p.items).structs 0 p.items) _ all in
+    let both_lists = left _ (heads_notes no_heads p.items ++ items_notes (file_scope p.items) p.items) (sizes_notes (file_scope p.items).structs 0 p.items) some in
+    let counts = few no_heads p.items (omega arith) (omega arith) (omega arith) (left _ (heads_notes no_heads p.items) (items_notes (file_scope p.items) p.items) both_lists) in
+    let parts = small (file_scope p.items) p.items (right _ (heads_notes no_heads p.items) (items_notes (file_scope p.items) p.items) both_lists) in
+    let cells = few_cells (file_scope p.items).structs 0 p.items (omega arith) (right _ (heads_notes no_heads p.items ++ items_notes (file_scope p.items) p.items) (sizes_notes (file_scope p.items).structs 0 p.items) some) in
     let structs_few = counts.structs in
     let globals_few = counts.globals in
     let functions_few = counts.functions in
@@ -119,7 +119,7 @@ each_names_itself r resolved placed low =
 pub each_names_own : EachNamesOwn
 each_names_own r resolved placed low =
     let s = sound r resolved (own_tokens r.program placed) low in
-    each_function r (file_scope r.program.items) (NamesOwnVariables r) (λ f d h. own_variables r r.program.items f (of_function r (file_scope r.program.items) s.scene f d h).places) r.program.items s.declared s.items
+    each_function r (file_scope r.program.items) (NamesOwnVariables r) (λ f d h. own_variables r r.program.items f h (of_function r (file_scope r.program.items) s.scene f d h).places) r.program.items s.declared s.items
 
 pub one_type : OneType
 one_type r resolved placed low e k h = types.one_type r (each_names_itself r resolved placed low) e k h
@@ -132,9 +132,9 @@ reaches_functions r resolved placed low m h = reached_function r (meets_constrai
 
 pub meets_globals : MeetsGlobals
 meets_globals p typed =
-    let sized = clean_left (heads_notes no_heads p.items ++ items_notes (file_scope p.items) p.items ++ sizes_notes (file_scope p.items).structs 0 p.items) _ (clean (notes_about p) typed) in
+    let sized = left _ (heads_notes no_heads p.items ++ items_notes (file_scope p.items) p.items ++ sizes_notes (file_scope p.items).structs 0 p.items) _ (clean (notes_about p) typed) in
     globals_meet (file_scope p.items) p.items
-    (clean_right (heads_notes no_heads p.items) (items_notes (file_scope p.items) p.items) (clean_left (heads_notes no_heads p.items ++ items_notes (file_scope p.items) p.items) (sizes_notes (file_scope p.items).structs 0 p.items) sized))
+    (right _ (heads_notes no_heads p.items) (items_notes (file_scope p.items) p.items) (left _ (heads_notes no_heads p.items ++ items_notes (file_scope p.items) p.items) (sizes_notes (file_scope p.items).structs 0 p.items) sized))
 
 names_found : (r : Resolution) (p : Placing) → JudgedAt r p → NamesFound r p p.expression
 names_found r p j = by p.expression j.held
@@ -154,7 +154,7 @@ each_path_found r resolved placed low =
     let none = none_in_file (λ d. ⊥) r.program.items in
     record {
       places = together (JudgedAt r) (λ p. IsClosed r p.scope.names) (PathsAt r) (λ p j c. record { closed = c; cast = cast_stands r p.scope p.expression j.held }) (places_of_all (file_scope r.program.items) (functions_in r.program.items))
-          (all_places r s) (items_closed r (file_scope r.program.items) (none_closed r (file_scope r.program.items).names none) r.program.items s.items);
+          (all_places r s) (items_closed r (file_scope r.program.items) (none_closed r (file_scope r.program.items).names none, none_in_file AnyVariable r.program.items) r.program.items s.items);
       locals = each_function r (file_scope r.program.items) (BodyStands r (file_scope r.program.items)) (λ f d h. body_stands r (file_scope r.program.items) f h) r.program.items s.declared s.items;
       types = all_types r (file_scope r.program.items) none r.program.items s.items;
     }

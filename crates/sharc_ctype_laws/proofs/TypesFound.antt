@@ -1,79 +1,16 @@
 -- In a tree at its tokens what has a type begins at a token of its own, so it is found by its tokens.
-use Rattle.sharc_ctype_laws.proofs.{Imports.{◌≡◌, ⊎_elim, ℕ, ◌+◌, ◌<◌, ◌≤◌, ◌==◌, ◌&&◌, cond, List, [], ◌∷◌, ◌++◌, map, refl, ap, sym, ◌∙◌, subst, arith, Option, Some, None, eq-eqb, ne_eqb, and_from, and_left, cases_eq, cond-false, AllByRecursion, find, Keyword, Scast, Token, TokenKind, Declaration, WrittenType, Mark, a_name, a_cast, keyword_marks, kind_marks, marks_from, name_marks, type_marks, declaration_marks, declarations_marks, marks, arguments_marks, option_marks, right_marks, simple_marks, local_marks, first_marks, head_marks, statement_marks, statements_marks, item_marks, items_marks, expressions, in_arguments, in_option, in_right, in_simple, IsPlaced, Expression, Arguments, no_arguments, argument, Right, value, malloc, Simple, assign, does_call, Local, First, nothing, declares, does, Head, Statement, Statements, no_statements, statement, Item, Program, Role, Entity, Numbered, cast_entity, casts, local_entities, first_entities, head_entities, statement_entities, statements_entities, result_of, item_entities, entities_in, positions_of, numbered_from, is_told_by, Resolution, IsFound, types_in, types_in_arguments, types_in_option, types_in_right, types_in_simple, types_in_local, types_in_first, types_in_head, types_in_statement, types_in_statements, types_in_declarations, types_in_item, types_in_items, IsNamedType, front, back, both, together, first_locals, locals_in, locals_in_all, declarations_of, declarations_in}, Counts.{one, written}, OwnTokens.{one_same, one_other, one_low, times, one_written, none_written, locals_side, locals_behind, locals_before, found_by_token, HasOwnTokens}, Walked.AreDeclared}
+use Rattle.sharc_ctype_laws.proofs.{Imports.{◌≡◌, ℕ, ◌+◌, ◌≤◌, ◌==◌, ◌&&◌, cond, List, [], ◌∷◌, ◌++◌, map, refl, ap, sym, ◌∙◌, subst, arith, Option, Some, None, eq-eqb, ne_eqb, and_from, and_left, cond-false, AllByRecursion, find, Declaration, WrittenType, Mark, a_name, a_cast, name_marks, type_marks, declaration_marks, declarations_marks, marks, arguments_marks, option_marks, right_marks, simple_marks, local_marks, first_marks, head_marks, statement_marks, statements_marks, item_marks, items_marks, expressions, in_arguments, in_option, in_right, in_simple, IsPlaced, Expression, Arguments, no_arguments, argument, Right, value, malloc, Simple, assign, does_call, Local, First, nothing, declares, does, Head, Statement, Statements, no_statements, statement, Item, Program, Role, Entity, Numbered, cast_entity, casts, local_entities, first_entities, head_entities, statement_entities, statements_entities, result_of, item_entities, entities_in, positions_of, numbered_from, is_told_by, Resolution, IsFound, types_in, types_in_arguments, types_in_option, types_in_right, types_in_simple, types_in_local, types_in_first, types_in_head, types_in_statement, types_in_statements, types_in_declarations, types_in_item, types_in_items, IsNamedType, front, back, both, together, first_locals, locals_in, locals_in_all, declarations_of, declarations_in}, Counts.one, OwnTokens.{one_same, times, one_written, none_most, side, behind, before, apart, token_of, found_by_token, HasOwnTokens, own_tokens}, Walked.AreDeclared}
 use Rattle.sharc_tree.specs.Marks.{number_of}
 use Rattle.sharc_tree.specs.Tree as tree
 use Rattle.sharc_ctype.specs.Entities.{declared}
 
--- how many marks are at a token, and how much begins there that has a type
+-- ---- what has a type begins at a mark
 
-marked : ℕ → List Mark → ℕ
-marked t [] = 0
-marked t (m ∷ rest) = one t (number_of m) + marked t rest
+abbrev start : Entity → ℕ
+start e = e.token
 
-marked-append : (t : ℕ) (a b : List Mark) → marked t (a ++ b) ≡ marked t a + marked t b
-unfolding marked
-marked-append t [] b = omega arith
-marked-append t (m ∷ rest) b = let e = marked-append t rest b in omega (arith, e)
-
-begun : ℕ → List Entity → ℕ
-begun t [] = 0
-begun t (e ∷ rest) = one t e.token + begun t rest
-
-begun-append : (t : ℕ) (a b : List Entity) → begun t (a ++ b) ≡ begun t a + begun t b
-unfolding begun
-begun-append t [] b = omega arith
-begun-append t (e ∷ rest) b = let f = begun-append t rest b in omega (arith, f)
-
--- those among tokens
-
-keyword_low : (t n : ℕ) (k : Keyword) → marked t (keyword_marks k n) ≤ one t n
-unfolding marked
-keyword_low t n Scast = omega arith
-keyword_low t n _ = omega arith
-
-kind_low : (t n : ℕ) (k : TokenKind) (text : List ℕ) → marked t (kind_marks k text n) ≤ one t n
-unfolding marked
-kind_low t n (TokenKind.Keyword k) text = keyword_low t n k
-kind_low t n _ text = omega arith
-
-unmarked : (t : ℕ) → marked t [] ≡ 0
-unfolding marked
-unmarked t = refl
-
-record AreFew (t n : ℕ) (list : List Token) : Type 0 where
-  once : marked t (marks_from n list) ≤ 1
-  low : t < n → marked t (marks_from n list) ≡ 0
-
-few : (t n : ℕ) (list : List Token) → AreFew t n list
-few t n [] = let e = unmarked t in record { once = omega (arith, e); low = λ h. e }
-few t n (x ∷ rest) =
-    let f = few t (n + 1) rest in
-    let e = marked-append t (kind_marks x.kind x.text n) (marks_from (n + 1) rest) in
-    let k = kind_low t n x.kind x.text in
-    let f_once = f.once in
-    let one_is = one_low t n in
-    record {
-      once = ⊎_elim (λ is. let z = f.low (omega (arith, is)) in omega (arith, e, k, z, one_is)) (λ is. let z = one_other t n is in omega (arith, e, k, z, f_once)) (cases_eq n t);
-      low = λ h. let z = one_other t n (λ is. omega (arith, h, is)) in let y = f.low (omega (arith, h)) in omega (arith, e, k, z, y);
-    }
-
--- what has a type begins at a mark
-
-none_most : (t n : ℕ) → begun t [] ≤ n
-unfolding begun
-none_most t n = omega arith
-
-side : (t : ℕ) (a b : List Entity) (x y : List Mark) → begun t a ≤ marked t x → begun t b ≤ marked t y → begun t (a ++ b) ≤ marked t (x ++ y)
-side t a b x y h k = let e = begun-append t a b in let f = marked-append t x y in omega (arith, e, f, h, k)
-
-behind : (t : ℕ) (b : List Entity) (x y : List Mark) → begun t b ≤ marked t y → begun t b ≤ marked t (x ++ y)
-behind t b x y h = let f = marked-append t x y in omega (arith, f, h)
-
-before : (t : ℕ) (b : List Entity) (x y : List Mark) → begun t b ≤ marked t x → begun t b ≤ marked t (x ++ y)
-before t b x y h = let f = marked-append t x y in omega (arith, f, h)
-
-headed : (t : ℕ) (e : Entity) (m : Mark) (b : List Entity) (y : List Mark) → e.token ≡ number_of m → begun t b ≤ marked t y → begun t (e ∷ b) ≤ marked t (m ∷ y)
-unfolding begun marked
+headed : (t : ℕ) (e : Entity) (m : Mark) (b : List Entity) (y : List Mark) → e.token ≡ number_of m → times start t b ≤ times number_of t y → times start t (e ∷ b) ≤ times number_of t (m ∷ y)
+unfolding times
 headed t e m b y is h = let q = ap (one t) is in omega (arith, q, h)
 
 casts-append : (a b : List Expression) → casts (a ++ b) ≡ casts a ++ casts b
@@ -88,29 +25,29 @@ module _ (P : WrittenType → Type 0) where
   Q e = P e.written
 
   record Stand (es : List Entity) (ms : List Mark) (ws : List WrittenType) (ds : List Declaration) : Type 0 where
-    most : (t : ℕ) → begun t es ≤ marked t ms
+    most : (t : ℕ) → times start t es ≤ times number_of t ms
     types : AllByRecursion P ws → AllByRecursion Q es
-    names : (t : ℕ) → times t ds ≤ written t ms
+    names : (t : ℕ) → times token_of t ds ≤ times number_of t ms
 
   none : {ms : List Mark} {ws : List WrittenType} → Stand [] ms ws []
-  none {ms} = record { most = λ t. none_most t (marked t ms); types = λ h. tt; names = λ t. none_written t (written t ms) }
+  none {ms} = record { most = λ t. none_most start t (times number_of t ms); types = λ h. tt; names = λ t. none_most token_of t (times number_of t ms) }
 
   two : {a b : List Entity} {x y : List Mark} {u v : List WrittenType} {ds es : List Declaration} → Stand a x u ds → Stand b y v es → Stand (a ++ b) (x ++ y) (u ++ v) (ds ++ es)
   two {a} {b} {x} {y} {u} {v} {ds} {es} one more = record {
-    most = λ t. side t a b x y (one.most t) (more.most t);
+    most = λ t. side start t a b x y (one.most t) (more.most t);
     types = λ h. both Q a b (one.types (front P u v h)) (more.types (back P u v h));
-    names = λ t. locals_side t ds es x y (one.names t) (more.names t);
+    names = λ t. side token_of t ds es x y (one.names t) (more.names t);
   }
 
   -- behind marks, and before marks and types
   after : {b : List Entity} {y : List Mark} {v : List WrittenType} {ds : List Declaration} (x : List Mark) → Stand b y v ds → Stand b (x ++ y) v ds
-  after {b} {y} {v} {ds} x h = record { most = λ t. behind t b x y (h.most t); types = h.types; names = λ t. locals_behind t ds x y (h.names t) }
+  after {b} {y} {v} {ds} x h = record { most = λ t. behind start t b x y (h.most t); types = h.types; names = λ t. behind token_of t ds x y (h.names t) }
 
   ahead : {b : List Entity} {x : List Mark} {u : List WrittenType} {ds : List Declaration} (y : List Mark) (v : List WrittenType) → Stand b x u ds → Stand b (x ++ y) (u ++ v) ds
-  ahead {b} {x} {u} {ds} y v h = record { most = λ t. before t b x y (h.most t); types = λ all. h.types (front P u v all); names = λ t. locals_before t ds x y (h.names t) }
+  ahead {b} {x} {u} {ds} y v h = record { most = λ t. before start t b x y (h.most t); types = λ all. h.types (front P u v all); names = λ t. before token_of t ds x y (h.names t) }
 
   begins : {b : List Entity} {y : List Mark} {v : List WrittenType} {ds : List Declaration} (e : Entity) (m : Mark) → e.token ≡ number_of m → Stand b y v ds → Stand (e ∷ b) (m ∷ y) (e.written ∷ v) ds
-  begins {b} {y} {v} {ds} e m is h = record { most = λ t. headed t e m b y is (h.most t); types = λ all. (all.0, h.types all.1); names = λ t. locals_behind t ds (m ∷ []) y (h.names t) }
+  begins {b} {y} {v} {ds} e m is h = record { most = λ t. headed t e m b y is (h.most t); types = λ all. (all.0, h.types all.1); names = λ t. behind token_of t ds (m ∷ []) y (h.names t) }
 
   -- of casts among expressions
   two_casts : (a b : List Expression) {x y : List Mark} {u v : List WrittenType} → Stand (casts a) x u [] → Stand (casts b) y v [] → Stand (casts (a ++ b)) (x ++ y) (u ++ v) []
@@ -125,7 +62,7 @@ module _ (P : WrittenType → Type 0) where
     in_expression (tree.on_place s w a) = in_expression a
     in_expression (tree.cast s w a) = begins (cast_entity s w) (a_cast s.first.token) refl (after (type_marks w) (in_expression a))
     in_expression (tree.index s a i) = two_casts (expressions a) (expressions i) (in_expression a) (in_expression i)
-    in_expression (tree.field s a w n) = record { most = λ t. before t (casts (expressions a)) (marks a) (name_marks n) ((in_expression a).most t); types = (in_expression a).types; names = λ t. none_written t (written t (marks a ++ name_marks n)) }
+    in_expression (tree.field s a w n) = record { most = λ t. before start t (casts (expressions a)) (marks a) (name_marks n) ((in_expression a).most t); types = (in_expression a).types; names = λ t. none_most token_of t (times number_of t (marks a ++ name_marks n)) }
     in_expression (tree.unary s o a) = in_expression a
     in_expression (tree.binary s o at a b) = two_casts (expressions a) (expressions b) (in_expression a) (in_expression b)
     in_expression _ = none
@@ -174,8 +111,8 @@ module _ (P : WrittenType → Type 0) where
   in_head : (h : Head) → Stand (head_entities h) (head_marks h) (types_in_head h) (first_locals h.first)
   in_head h =
       let parts = two (two (in_first_part h.first) (in_test h.test)) (in_step h.step) in
-      let first : (t : ℕ) → times t (first_locals h.first) ≤ written t (first_marks h.first ++ option_marks marks h.test) = λ t. locals_before t (first_locals h.first) (first_marks h.first) (option_marks marks h.test) ((in_first_part h.first).names t) in
-      record { most = parts.most; types = parts.types; names = λ t. locals_before t (first_locals h.first) (first_marks h.first ++ option_marks marks h.test) (option_marks simple_marks h.step) (first t) }
+      let first : (t : ℕ) → times token_of t (first_locals h.first) ≤ times number_of t (first_marks h.first ++ option_marks marks h.test) = λ t. before token_of t (first_locals h.first) (first_marks h.first) (option_marks marks h.test) ((in_first_part h.first).names t) in
+      record { most = parts.most; types = parts.types; names = λ t. before token_of t (first_locals h.first) (first_marks h.first ++ option_marks marks h.test) (option_marks simple_marks h.step) (first t) }
 
   mutual
     in_statement : (a : Statement) → Stand (statement_entities a) (statement_marks a) (types_in_statement a) (locals_in a)
@@ -197,7 +134,7 @@ module _ (P : WrittenType → Type 0) where
   in_item (tree.structure s) = after (name_marks s.name) (in_declarations Role.Field s.fields)
   in_item (tree.global g) =
       let one = in_declaration Role.Global g.declaration in
-      record { most = one.most; types = one.types; names = λ t. none_written t (written t (declaration_marks g.declaration)) }
+      record { most = one.most; types = one.types; names = λ t. none_most token_of t (times number_of t (declaration_marks g.declaration)) }
   in_item (tree.function f) =
       let result : Stand (result_of f ∷ []) (type_marks f.result ++ name_marks f.name) (f.result ∷ []) [] = after (type_marks f.result) (begins (result_of f) (a_name f.name.site.token f.name.text) refl none) in
       two (two result (in_declarations Role.Parameter f.parameters)) (in_statements f.statements)
@@ -206,8 +143,8 @@ module _ (P : WrittenType → Type 0) where
   in_items [] = none
   in_items (i ∷ rest) = two (in_item i) (in_items rest)
 
-at_most_one : (p : Program) → IsPlaced p → (t : ℕ) → begun t (entities_in p.items) ≤ 1
-at_most_one p placed t = let e = (in_items (λ w. Unit {0}) p.items).most t in let f = subst (λ m. marked t m ≤ 1) (sym placed.marked) (few t 0 p.tokens.list).once in omega (arith, e, f)
+at_most_one : (p : Program) → IsPlaced p → (t : ℕ) → times start t (entities_in p.items) ≤ 1
+at_most_one p placed t = let e = (in_items (λ w. Unit {0}) p.items).most t in let o = (own_tokens p placed).all t in omega (arith, e, o)
 
 -- so each is found
 
@@ -216,13 +153,8 @@ record FoundIn (k : ℕ) (list : List Entity) (e : Entity) : Type 0 where
   itself : numbered.entity ≡ e
   found : find (is_told_by e.token e.last) (numbered_from k list) ≡ Some numbered
 
-apart : (t : ℕ) (list : List Entity) → begun t list ≡ 0 → AllByRecursion (λ e. t ≡ e.token → ⊥) list
-unfolding begun
-apart t [] h = tt
-apart t (e ∷ rest) h = ((λ is. let f = one_same t in let g = ap (one t) is in omega (arith, h, f, g)), apart t rest (omega (arith, h)))
-
-found_all : (k : ℕ) (list : List Entity) → ((t : ℕ) → begun t list ≤ 1) → AllByRecursion (FoundIn k list) list
-unfolding begun
+found_all : (k : ℕ) (list : List Entity) → ((t : ℕ) → times start t list ≤ 1) → AllByRecursion (FoundIn k list) list
+unfolding times
 found_all k [] once = tt
 found_all k (x ∷ rest) once = (
   record {
@@ -238,7 +170,7 @@ found_all k (x ∷ rest) once = (
         found = cond-false (x.token == e.token && x.last == e.last) (Some (record { entity = x; first = k })) (find (is_told_by e.token e.last) (numbered_from (k + positions_of x) rest))
             (and_left (x.token == e.token) (x.last == e.last) (ne_eqb x.token e.token other)) ∙ w.found;
       })
-      rest (apart x.token rest (let o = once x.token in let s = one_same x.token in omega (arith, o, s)))
+      rest (apart start x.token rest (let o = once x.token in let s = one_same x.token in omega (arith, o, s)))
       (found_all (k + positions_of x) rest (λ t. let o = once t in omega (arith, o))),
 )
 
@@ -249,4 +181,4 @@ each_found r placed named =
     (found_all 0 (entities_in r.program.items) (at_most_one r.program placed)) ((in_items (IsNamedType r) r.program.items).types named)
 
 pub all_declared : (r : Resolution) → HasOwnTokens r.program → AreDeclared r (declarations_in r.program.items)
-all_declared r own = found_by_token (declarations_in r.program.items) (λ t. let e = (in_items (λ w. Unit {0}) r.program.items).names t in let o = own.once t in omega (arith, e, o))
+all_declared r own = found_by_token (declarations_in r.program.items) (λ t. let e = (in_items (λ w. Unit {0}) r.program.items).names t in let o = own.all t in omega (arith, e, o))

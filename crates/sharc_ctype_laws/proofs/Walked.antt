@@ -29,7 +29,7 @@ declared_meant r structs block d names all is s = either r structs names (record
 
 local_meant : (r : Resolution) (around : Around) (scope : Scope) → IsScene r scope → (l : Local) → declaration_at r l.declaration.name.site.token ≡ Some l.declaration → Held r (local_notes around scope l)
     → AreMeant r scope.structs (declared around.block l.declaration scope.names)
-local_meant r around scope scene l is h = declared_meant r scope.structs around.block l.declaration scope.names scene.names is (type_solid r scope [] Role.Local l.declaration.written refl (left r _ _ (left r _ _ h)))
+local_meant r around scope scene l is h = declared_meant r scope.structs around.block l.declaration scope.names scene.names is (type_solid r scope [] Role.Local l.declaration.written refl (left _ _ _ (left _ _ _ h)))
 
 pub local_scene : (r : Resolution) (around : Around) (scope : Scope) → IsScene r scope → (l : Local) → declaration_at r l.declaration.name.site.token ≡ Some l.declaration → Held r (local_notes around scope l)
     → IsScene r (with_names scope (declared around.block l.declaration scope.names))
@@ -40,7 +40,7 @@ first_meant r around scope scene (declares l) d h = local_meant r around scope s
 first_meant r around scope scene _ d h = scene.names
 
 pub head_scene : (r : Resolution) (around : Around) (scope : Scope) → IsScene r scope → (x : Head) → AreDeclared r (first_locals x.first) → Held r (head_notes around scope x) → IsScene r (in_head around scope x)
-head_scene r around scope scene x d h = scene_with r scope scene _ (first_meant r around scope scene x.first d (left r _ _ (left r _ _ h)))
+head_scene r around scope scene x d h = scene_with r scope scene _ (first_meant r around scope scene x.first d (left _ _ _ (left _ _ _ h)))
 
 after_meant : (r : Resolution) (around : Around) (scope : Scope) → IsScene r scope → (a : Statement) → AreDeclared r (locals_in a) → Held r (notes_in around scope a) → AreMeant r scope.structs (after around scope.names a)
 after_meant r around scope scene (tree.declare s l) d h = local_meant r around scope scene l d.0 h

@@ -1,7 +1,7 @@
 -- What the proofs cite of std, of other crates and of this crate's definitions, passed on from one place.
-pub use Rattle.std.proofs.{Common.{Bool, Contains, List, None, Option, Some, [], ap, arith, cond, drop, eqb-true, ext_get_or, false, get_or, inl, inr, is_some, length, map, not, refl, subst, suc, sym, take, true, zero, ℕ, ⊎_elim, ◌&&◌, ◌++◌, ◌+◌, ◌<◌, ◌==◌, ◌||◌, ◌∙◌, ◌∷◌, ◌≡◌, ◌≤◌, ◌⊎◌}, lemmas.Bool.{and_parts, false≢true, or_left, or_right}, lemmas.List.{drop-drop, get_or-append-add, get_or_append_left, length-append}, lemmas.List.Elements.{All-contains, All-from_recursion, Contains-append_left}}
+pub use Rattle.std.proofs.{Common.{Bool, Contains, List, None, Option, Some, [], ap, arith, cond, drop, eqb-true, ext_get_or, false, get_or, inl, inr, is_some, length, map, not, refl, subst, suc, sym, take, true, zero, ℕ, ⊎_elim, ◌&&◌, ◌++◌, ◌+◌, ◌<◌, ◌==◌, ◌||◌, ◌∙◌, ◌∷◌, ◌≡◌, ◌≤◌, ◌⊎◌}, lemmas.Bool.{and_parts, false≢true, or_left, or_right}, lemmas.List.{drop-drop, get_or-append-add, get_or_append_left, length-append}, lemmas.List.Elements.{All-contains, All-from_recursion, Contains-append_left, Contains-append_left as before, Contains-append_right as behind}}
 pub use Rattle.std.specs.{List.{AllByRecursion, find, flat_map, list_any}, Option.option_or, Prelude.slice_get}
-pub use Rattle.sharc_lemmas.proofs.{Lists.{at_place as at_get, contains_behind, head_there}, Options.some_and}
+pub use Rattle.sharc_lemmas.proofs.{Lists.{at_place as at_get, both, contains_behind, head_there, of_each}, Options.some_and}
 pub use Rattle.sharc_graph.specs.{Findings.finding_at, Flow.{AreInferred, Flow, FlowsTo, IsInferred, IsInferredRank, IsInferredReason, IsOrigin, IsRankFor, flow_of, is_unwritten, place_at}, declared.graph.NodeFinding.NodeFinding, declared.graph.NodeFinding.TheVariants.{Apart, Behind, Source}, declared.place.PositionKind.PositionKind}
 pub use Rattle.sharc_tree.specs.{Placed.{Follow, IsPlaced, PlacedDeclaration, PlacedDeclarations, PlacedItem, PlacedItems, declaration_spans, item_spans}, Texts.{mode_text, path_text}, Tree.{Function, Item, function, global, structure}, declared.ctype.Base.Base, declared.ctype.Mode.Mode, declared.ctype.Mode.TheVariants.{Dynamic, Locked, Private, Racy}, declared.ctype.Path.Path, declared.token.Span.Span, declared.token.Token.Token, declared.tree.declaration.Declaration.Declaration, declared.tree.item.GlobalDefinition.GlobalDefinition}
 pub use Rattle.sharc_names.specs.{declared.fault.Named.Named, declared.types.Role.Role}

@@ -1,5 +1,5 @@
 -- What `well_formed` says of the type of an entity is reported of it.
-use Rattle.sharc_infer_laws.proofs.Imports.{◌≡◌, ℕ, zero, suc, ◌+◌, ◌<◌, Bool, true, false, not, ◌&&◌, ◌||◌, cond, List, [], ◌∷◌, ◌++◌, length, map, take, drop, get_or, Option, Some, None, is_some, refl, ap, sym, ◌∙◌, subst, arith, false≢true, or_right, or_left, drop-drop, Contains, AllByRecursion, flat_map, list_any, option_or, Base, Path, Mode, Private, Racy, Span, path_text, mode_text, Role, Entity, Numbered, entities_in, first_depth, numbered, numbered_from, positions_of, written_modes, ErrorCode, PrivateTarget, LockPathNotConstant, ModeNotAllowed, PrivateField, Finding, Wrong, IsLeastAssignment, SettledStay, SettledAreCounted, Assignment, position_count, error, mismatch, no_type, error_where, top_levels, position_levels, levels_of, printed_type, private_notes, path_notes, mode_notes, is_private_level, is_field_role, private_field_notes, names_of, names_in, names_in_level, type_notes, is_mutex, settled, field_target, otherwise_of, settled_modes, settled_in, Sharing, locked, sharing_of, text_at, object_of, place_of, is_private_mode, begins_private, holds_private, meant, first_unfit_path, first_unfit_mode, lowest, code_of, IsTold, TypesAreTold}
+use Rattle.sharc_infer_laws.proofs.Imports.{◌≡◌, ℕ, zero, suc, ◌+◌, ◌<◌, Bool, true, false, not, ◌&&◌, ◌||◌, cond, List, [], ◌∷◌, ◌++◌, length, map, take, drop, get_or, Option, Some, None, is_some, refl, ap, sym, ◌∙◌, subst, arith, false≢true, or_right, or_left, drop-drop, Contains, before, behind, head_there, of_each, both, AllByRecursion, flat_map, list_any, option_or, Base, Path, Mode, Private, Racy, Span, path_text, mode_text, Role, Entity, Numbered, entities_in, first_depth, numbered, numbered_from, positions_of, written_modes, ErrorCode, PrivateTarget, LockPathNotConstant, ModeNotAllowed, PrivateField, Finding, Wrong, IsLeastAssignment, SettledStay, SettledAreCounted, Assignment, position_count, error, mismatch, no_type, error_where, top_levels, position_levels, levels_of, printed_type, private_notes, path_notes, mode_notes, is_private_level, is_field_role, private_field_notes, names_of, names_in, names_in_level, type_notes, is_mutex, settled, field_target, otherwise_of, settled_modes, settled_in, Sharing, locked, sharing_of, text_at, object_of, place_of, is_private_mode, begins_private, holds_private, meant, first_unfit_path, first_unfit_mode, lowest, code_of, IsTold, TypesAreTold}
 
 -- ---- levels that are known more of than others
 
@@ -132,30 +132,6 @@ holds_by _ b [] ps h is = absurd (false≢true is)
 
 -- ---- what is reported
 
-stands_front : (a b : List Finding) (x : Finding) (k : ℕ) → k < length a → get_or a k x ≡ x → Contains (a ++ b) x
-stands_front [] b x k low is = absurd (omega (arith, low))
-stands_front (y ∷ a) b x zero low is = (zero, omega arith, is)
-stands_front (y ∷ a) b x (suc k) low is =
-    let more : Contains (a ++ b) x = stands_front a b x k (omega (arith, low)) is in
-    let next : more.0 < length (a ++ b) = more.1 in
-    (suc more.0, omega (arith, next), more.2)
-
-stands_back : (a b : List Finding) (x : Finding) (k : ℕ) → k < length b → get_or b k x ≡ x → Contains (a ++ b) x
-stands_back [] b x k low is = (k, low, is)
-stands_back (y ∷ a) b x k low is =
-    let more : Contains (a ++ b) x = stands_back a b x k low is in
-    let next : more.0 < length (a ++ b) = more.1 in
-    (suc more.0, omega (arith, next), more.2)
-
-before : (a b : List Finding) (x : Finding) → Contains a x → Contains (a ++ b) x
-before a b x at = stands_front a b x at.0 at.1 at.2
-
-behind : (a b : List Finding) (x : Finding) → Contains b x → Contains (a ++ b) x
-behind a b x at = stands_back a b x at.0 at.1 at.2
-
-alone : (x : Finding) → Contains (x ∷ []) x
-alone x = (zero, omega arith, refl)
-
 module _ (m : Assignment) (n : Numbered) where
   abbrev span : Span
   span = n.entity.written.span
@@ -178,7 +154,7 @@ module _ (m : Assignment) (n : Numbered) where
   third : holds_private (levels_of m n) ≡ true → IsTold m n PrivateTarget
   third is =
       let x : Finding = mismatch PrivateTarget span (printed_type m n) (printed_type m n) in
-      let here : Contains (private_notes m n) x = subst (λ (b : Bool). Contains (cond b (x ∷ []) []) x) (sym is) (alone x) in
+      let here : Contains (private_notes m n) x = subst (λ (b : Bool). Contains (cond b (x ∷ []) []) x) (sym is) (head_there x []) in
       record {
         error = record { code = PrivateTarget; site = span.first; expected = printed_type m n; found = printed_type m n; subject = [] };
         stands = before (private_notes m n ++ path_notes span path ++ mode_notes span mode ++ fields) names x
@@ -190,7 +166,7 @@ module _ (m : Assignment) (n : Numbered) where
   fourth : (p : Path) → path ≡ Some p → IsTold m n LockPathNotConstant
   fourth p is =
       let x : Finding = error LockPathNotConstant span (path_text p) in
-      let here : Contains (path_notes span path) x = subst (λ (o : Option Path). Contains (path_notes span o) x) (sym is) (alone x) in
+      let here : Contains (path_notes span path) x = subst (λ (o : Option Path). Contains (path_notes span o) x) (sym is) (head_there x []) in
       record {
         error = record { code = LockPathNotConstant; site = span.first; expected = no_type; found = no_type; subject = path_text p };
         stands = before (private_notes m n ++ path_notes span path ++ mode_notes span mode ++ fields) names x
@@ -202,7 +178,7 @@ module _ (m : Assignment) (n : Numbered) where
   fifth : (x : Mode) → mode ≡ Some x → IsTold m n ModeNotAllowed
   fifth w is =
       let x : Finding = error ModeNotAllowed span (mode_text w) in
-      let here : Contains (mode_notes span mode) x = subst (λ (o : Option Mode). Contains (mode_notes span o) x) (sym is) (alone x) in
+      let here : Contains (mode_notes span mode) x = subst (λ (o : Option Mode). Contains (mode_notes span o) x) (sym is) (head_there x []) in
       record {
         error = record { code = ModeNotAllowed; site = span.first; expected = no_type; found = no_type; subject = mode_text w };
         stands = before (private_notes m n ++ path_notes span path ++ mode_notes span mode ++ fields) names x
@@ -217,18 +193,14 @@ module _ (m : Assignment) (n : Numbered) where
   no_code : (b : ErrorCode) → None ≡ Some b → ⊥
   no_code b is = cc
 
-  some_path : (o : Option Path) → is_some o ≡ true → (p : Path) × (o ≡ Some p)
-  some_path None is = absurd (false≢true is)
-  some_path (Some p) is = (p, refl)
-
-  some_mode : (o : Option Mode) → is_some o ≡ true → (x : Mode) × (o ≡ Some x)
-  some_mode None is = absurd (false≢true is)
-  some_mode (Some x) is = (x, refl)
+  some_is : {A : Type 0} (o : Option A) → is_some o ≡ true → (x : A) × (o ≡ Some x)
+  some_is None is = absurd (false≢true is)
+  some_is (Some x) is = (x, refl)
 
   told_by : (a b c : Bool) → (a ≡ true → IsTold m n PrivateTarget) → is_some path ≡ b → is_some mode ≡ c → (code : ErrorCode) → lowest a b c ≡ Some code → IsTold m n code
   told_by true b c first pathed moded code is = subst (IsTold m n) (same_code PrivateTarget code is) (first refl)
-  told_by false true c first pathed moded code is = let p = some_path path pathed in subst (IsTold m n) (same_code LockPathNotConstant code is) (fourth p.0 p.1)
-  told_by false false true first pathed moded code is = let x = some_mode mode moded in subst (IsTold m n) (same_code ModeNotAllowed code is) (fifth x.0 x.1)
+  told_by false true c first pathed moded code is = let p = some_is path pathed in subst (IsTold m n) (same_code LockPathNotConstant code is) (fourth p.0 p.1)
+  told_by false false true first pathed moded code is = let x = some_is mode moded in subst (IsTold m n) (same_code ModeNotAllowed code is) (fifth x.0 x.1)
   told_by false false false first pathed moded code is = absurd (no_code code is)
 
   -- ---- where none is reported, there is neither an M4 nor an M5
@@ -236,15 +208,6 @@ module _ (m : Assignment) (n : Numbered) where
   abbrev IsOther : Finding → Type 0
   IsOther (Wrong e) = (e.code ≡ LockPathNotConstant → ⊥) × (e.code ≡ ModeNotAllowed → ⊥)
   IsOther _ = Unit {0}
-
-  others_at : (l : List Finding) (x : Finding) (k : ℕ) → k < length l → get_or l k x ≡ x → AllByRecursion IsOther l → IsOther x
-  others_at [] x k low is all = absurd (omega (arith, low))
-  others_at (y ∷ l) x zero low is all = subst IsOther is all.0
-  others_at (y ∷ l) x (suc k) low is all = others_at l x k (omega (arith, low)) is all.1
-
-  both : (a b : List Finding) → AllByRecursion IsOther a → AllByRecursion IsOther b → AllByRecursion IsOther (a ++ b)
-  both [] b first second = second
-  both (x ∷ a) b first second = (first.0, both a b first.1 second)
 
   private_other : (b : Bool) → AllByRecursion IsOther (cond b (mismatch PrivateTarget span (printed_type m n) (printed_type m n) ∷ []) [])
   private_other true = ((λ is. absurd (cc), λ is. absurd (cc)), tt)
@@ -280,14 +243,14 @@ module _ (m : Assignment) (n : Numbered) where
 
   names_other : (l : List (Option Mode)) → AllByRecursion IsOther (flat_map (names_in_level m.typed) l)
   names_other [] = tt
-  names_other (level ∷ l) = both (names_in_level m.typed level) (flat_map (names_in_level m.typed) l) (level_other level) (names_other l)
+  names_other (level ∷ l) = both IsOther (names_in_level m.typed level) (flat_map (names_in_level m.typed) l) (level_other level) (names_other l)
 
   others : is_some path ≡ false → is_some mode ≡ false → AllByRecursion IsOther (type_notes m n)
   others pathed moded =
-      both (private_notes m n ++ path_notes span path ++ mode_notes span mode ++ fields) names
-      (both (private_notes m n ++ path_notes span path ++ mode_notes span mode) fields
-      (both (private_notes m n ++ path_notes span path) (mode_notes span mode)
-      (both (private_notes m n) (path_notes span path) (private_other (holds_private (levels_of m n))) (path_other path pathed)) (mode_other mode moded))
+      both IsOther (private_notes m n ++ path_notes span path ++ mode_notes span mode ++ fields) names
+      (both IsOther (private_notes m n ++ path_notes span path ++ mode_notes span mode) fields
+      (both IsOther (private_notes m n ++ path_notes span path) (mode_notes span mode)
+      (both IsOther (private_notes m n) (path_notes span path) (private_other (holds_private (levels_of m n))) (path_other path pathed)) (mode_other mode moded))
       (field_other (is_field_role n.entity.role) (list_any is_private_level levels) (text_at m.typed n.entity.token)))
       (names_other levels)
 
@@ -300,7 +263,7 @@ module _ (m : Assignment) (n : Numbered) where
   none_other : code_of m n ≡ None → (told : (code : ErrorCode) × IsTold m n code) → IsOther (Wrong told.1.error)
   none_other is told =
       let no = neither (holds_private (meant (place_of n.entity.role) n.entity.written.ctype.base levels)) (is_some path) (is_some mode) refl refl is in
-      others_at (type_notes m n) (Wrong told.1.error) told.1.stands.0 told.1.stands.1 told.1.stands.2 (others no.0 no.1)
+      of_each IsOther (type_notes m n) (Wrong told.1.error) (others no.0 no.1) told.1.stands
 
 pub types_are_told : SettledStay → SettledAreCounted → TypesAreTold
 types_are_told stay counted m least n at = record {

@@ -1,7 +1,6 @@
 mod Imports
-mod Behind
 mod Each
+mod Ends
 mod Held
 mod Lines
-mod Percents
 mod Unsigned

@@ -1,5 +1,5 @@
 -- A source that holds a line of a schedule, or the first of events, has two `%` in a row among its tokens, and so is no program.
-use Rattle.sharc_source_laws.proofs.{Imports.{◌≡◌, ℕ, ◌+◌, ◌==◌, Bool, true, false, List, [], ◌∷◌, ◌++◌, drop, Option, Some, None, Result, Ok, Err, ok_or, is_ok, codes, refl, sym, ap, ◌∙◌, subst, if◌then◌else◌, FaultAt, Token, Tokens, TokenFault, LineFault, SourceLine, ◌>>=◌, in_front, lines_of, token, tokens_of, behind_tokens, Read, opening, marked, with_tokens, marker_line, text_line, line_read, with_place, lines_read, tokens_read, reading, is_marker_line, TokenKind, Punctuator, mark, word_of, words_of, schedule_word, ProgramsHoldNoEvents, ProgramsHoldNoSchedule}, Percents.{Apart, program_apart, apart_before, not_twice}}
+use Rattle.sharc_source_laws.proofs.{Imports.{◌≡◌, ℕ, ◌+◌, ◌==◌, Bool, true, false, List, [], ◌∷◌, ◌++◌, drop, Option, Some, None, Result, Ok, Err, ok_or, is_ok, codes, refl, sym, ap, ◌∙◌, subst, if◌then◌else◌, FaultAt, Token, Tokens, TokenFault, LineFault, SourceLine, ◌>>=◌, in_front, lines_of, token, tokens_of, behind_tokens, Read, opening, marked, with_tokens, marker_line, text_line, line_read, with_place, lines_read, tokens_read, reading, is_marker_line, TokenKind, Punctuator, mark, word_of, words_of, schedule_word, ProgramsHoldNoEvents, ProgramsHoldNoSchedule}, Ends.{Apart, program_apart, apart_before, not_twice}}
 
 -- ---- tokens
 abbrev Fine : List Token → Type 0

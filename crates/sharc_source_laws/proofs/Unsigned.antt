@@ -1,5 +1,5 @@
 -- No number in a token has a sign, and its type holds it, as that of a character does.
-use Rattle.sharc_source_laws.proofs.{Imports.{◌≡◌, ℕ, pos, zero, suc, ◌+◌, ◌-◌, ◌==◌, Bool, true, false, List, [], ◌∷◌, ◌++◌, take, drop, Option, Some, None, Result, Ok, Err, ok_or, refl, sym, subst, arith, if◌then◌else◌, nat_tests, option_map, slice_get, nat_le, nat_lt, ◌^◌, unwrap_or, length, nat_eq, ◌||◌, ◌&&◌, not, ◌<◌, bytes_eq, starts_with, prefix_len, globals_in, functions_in, FaultAt, Int, Long, Token, Tokens, TokenKind, Constant, TokenFault, LineFault, SourceLine, Lexeme, is_blank, is_printable, is_letter, is_digit, is_white_space, is_word_byte, character, escaped, behind_backslash, plain, ◌>>=◌, at_offset, lines_of, token, tokens_of, behind_tokens, Read, opening, marked, with_tokens, marker_line, text_line, line_read, with_place, lines_read, tokens_read, reading, is_marker_line, marker, without_suffix, has_suffix, typed, small_value, first_begun, punctuators, punctuator, of_len, word_at, number_at, token_at, entry_at, keywords, word, kind_word, words_of, site_in, IsHeld, ConstantsAreHeld, NumbersHaveNoSign}, Held.functions_held, Behind.{IsPlainWord, Plainly, globals_begin, begins_unsigned}}
+use Rattle.sharc_source_laws.proofs.{Imports.{◌≡◌, ℕ, pos, zero, suc, ◌+◌, ◌-◌, ◌==◌, Bool, true, false, List, [], ◌∷◌, ◌++◌, take, drop, Option, Some, None, Result, Ok, Err, ok_or, refl, sym, subst, arith, if◌then◌else◌, nat_tests, option_map, slice_get, nat_le, nat_lt, ◌^◌, unwrap_or, length, nat_eq, ◌||◌, ◌&&◌, not, ◌<◌, bytes_eq, starts_with, prefix_len, globals_in, functions_in, FaultAt, Int, Long, Token, Tokens, TokenKind, Constant, TokenFault, LineFault, SourceLine, Lexeme, is_blank, is_printable, is_letter, is_digit, is_white_space, is_word_byte, character, escaped, behind_backslash, plain, ◌>>=◌, at_offset, lines_of, token, tokens_of, behind_tokens, Read, opening, marked, with_tokens, marker_line, text_line, line_read, with_place, lines_read, tokens_read, reading, is_marker_line, marker, without_suffix, has_suffix, typed, small_value, first_begun, punctuators, punctuator, of_len, word_at, number_at, token_at, entry_at, keywords, word, kind_word, words_of, site_in, IsHeld, ConstantsAreHeld, NumbersHaveNoSign}, Ends.{IsPlainWord, Plainly, globals_begin, begins_unsigned}, Held.functions_held}
 use Rattle.sharc_lex.specs.{Characters.constant, Numbers.value}
 
 -- ---- one token
