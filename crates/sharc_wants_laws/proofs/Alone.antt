@@ -1,5 +1,5 @@
 -- A count of 1 is that of the register that is tested.
-use Rattle.sharc_wants_laws.proofs.Imports.{◌≡◌, ◌≢◌, ℕ, zero, suc, ◌+◌, ◌*◌, ◌/◌, ◌<◌, ◌≤◌, ⊎_elim, true, false, ◌&&◌, List, ◌∷◌, Option, Some, None, refl, sym, ap, ◌∙◌, subst, arith, cond, nat_lt, ltb-true, cases_Bool, cases_eq, cases_lt, and_parts, nat_tests, slice_index, ◌==◌, nat_eq, if◌then◌else◌, THREADS, WordEvent, WordStep, test_of, Code, Instr, TestSole, Shape, Stage, FRAMES, Fits, granules, granule_at, words_of, cell_word, count_word, length_word, Machine, instr_at, act, ref, most_refs, Answered, Global, IsRun, Turn, result_of, step_of, one_thread, bounds, place_after, one, sum_to, Targets, cells_of, Label, Labels, Fine, IsWellTyped, ArgumentOf, In, RegisterOf, LogOf, Staged, World, ObjectState, argument_of, is_freed, IsSmall, label_now, first_place, IsAlone, MachineInvariant, cells_now, is_pointer_now, cell_refers, register_refers, log_refers, hand_refers, references_to, RunsTest, RunsFromTheBeginning, RunsStand, Passes, objects_there, not_zero}
+use Rattle.sharc_wants_laws.proofs.Imports.{◌≡◌, ◌≢◌, ℕ, zero, suc, ◌+◌, ◌*◌, ◌/◌, ◌<◌, ◌≤◌, ⊎_elim, true, false, ◌&&◌, List, ◌∷◌, Option, Some, None, refl, sym, ap, ◌∙◌, subst, arith, cond, nat_lt, ltb-true, cases_Bool, cases_eq, cases_lt, and_parts, nat_tests, slice_index, nat_eq, if◌then◌else◌, THREADS, WordEvent, WordStep, test_of, Code, Instr, TestSole, Shape, Stage, FRAMES, Fits, granules, granule_at, words_of, cell_word, count_word, length_word, Machine, instr_at, act, ref, most_refs, Answered, Global, IsRun, Turn, result_of, step_of, one_thread, bounds, place_after, one, sum_to, Targets, cells_of, Label, Labels, Fine, IsWellTyped, ArgumentOf, In, RegisterOf, LogOf, Staged, World, ObjectState, argument_of, is_freed, IsSmall, label_now, first_place, IsAlone, MachineInvariant, cells_now, is_pointer_now, cell_refers, register_refers, log_refers, hand_refers, references_to, RunsTest, RunsFromTheBeginning, RunsStand, Passes, objects_there, not_zero}
 use Rattle.sharc_code.specs.{Layout.cell_of, Path.{turn, asked_by}}
 use Rattle.sharc_invariant.specs.{Types.{field_in, is_pointer}, State.State}
 use Rattle.sharc_invariant.specs.Words as Words

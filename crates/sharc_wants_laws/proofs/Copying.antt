@@ -1,6 +1,6 @@
 -- Flat code that asks for nothing holds what it held before, and more turns change nothing once it has come to its next
 -- want, its stop or its end.
-use Rattle.sharc_wants_laws.proofs.{Imports.{◌≡◌, ℕ, zero, suc, ℤ, ◌+◌, true, List, [], ◌∷◌, refl, sym, ap, ◌∙◌, subst, arith, slice_get, refers, spent, Flat, At, goes, asks, halts, turn, on_turn, exec, Quietly}}
+use Rattle.sharc_wants_laws.proofs.{Imports.{◌≡◌, ℕ, zero, suc, ℤ, ◌+◌, true, List, [], ◌∷◌, refl, sym, ap, ◌∙◌, subst, arith, refers, spent, Flat, At, goes, asks, halts, turn, on_turn, exec, Quietly}}
 use Rattle.sharc_flat.specs.{Machine.{Turn}, Quiet.{AreFrom, IsQuiet, PathLaws}}
 
 pub quietly_from : (paths : PathLaws) (flat : Flat) (turns : ℕ) (m m2 : At) → Quietly flat turns m m2 → AreFrom m m2

@@ -1,6 +1,6 @@
 -- Where the pointer cells of a freed object are emptied, flat code gives them up, and wants the Freed of the object.
-use Rattle.sharc_wants_laws.proofs.{Imports.{◌≡◌, ℕ, suc, ℤ, ◌+◌, true, List, [], ◌∷◌, ◌++◌, refl, sym, ap, ◌∙◌, subst, slice_get, false≢true, slice_index, Act, Emptied, Asked, number_of, Code, Row, Instr, Free, Shape, Stage, Empties, Lowers, FreeLooks, FreeClears, Uncounts, Links, Machine, instr_at, Flat, At, asks, turn, on_turn, exec, Program, Thread, statement_at, Tells, Elements, instr_of, IsAt, IsAtStage, IsInFree, IsEmptying, is_emptying}}
-use Rattle.sharc_flat.specs.{Machine.{Turn, ref, next}, Quiet.{IsQuiet, PathLaws}}
+use Rattle.sharc_wants_laws.proofs.{Imports.{◌≡◌, ℕ, suc, ℤ, ◌+◌, true, List, [], ◌∷◌, ◌++◌, refl, sym, ap, ◌∙◌, subst, false≢true, slice_index, Act, Emptied, Asked, number_of, Code, Row, Instr, Free, Shape, Stage, Empties, Lowers, FreeLooks, FreeClears, Uncounts, Links, Machine, instr_at, Flat, At, asks, turn, on_turn, exec, Program, Thread, statement_at, Tells, Elements, instr_of, IsAt, IsAtStage, IsInFree, IsEmptying, is_emptying}}
+use Rattle.sharc_flat.specs.{Machine.{Turn}, Quiet.{IsQuiet, PathLaws}}
 use Rattle.sharc_guard.specs.Machine as Form
 
 -- so it stands where it wants the Freed

@@ -1,5 +1,5 @@
 -- So it is in the code that is made of flat code.
-use Rattle.sharc_wants_laws.proofs.{Imports.{◌≡◌, ℕ, zero, suc, ◌+◌, Bool, true, false, List, [], ◌∷◌, ◌++◌, map, refl, sym, ap, ◌∙◌, subst, arith, map-append, get_or as slice_index_or, functions_in, Row as Function, PlaceMode, Private, Racy, Dynamic, Cell, Operator, Width, Int, Instr, Op, Spot, flat_of, flattened, globals_of, instr_of, generated, check_under, compute, negate, expand, expanded, place, dropped, CodeWaits}}
+use Rattle.sharc_wants_laws.proofs.{Imports.{◌≡◌, ℕ, zero, suc, ◌+◌, Bool, true, false, List, [], ◌∷◌, ◌++◌, map, refl, sym, ap, ◌∙◌, subst, arith, map-append, get_or as slice_index_or, Row as Function, PlaceMode, Private, Racy, Dynamic, Cell, Operator, Width, Int, Instr, Op, Spot, flat_of, instr_of, generated, check_under, compute, negate, expand, expanded, place, dropped, CodeWaits}}
 use Rattle.sharc_code.specs.declared.code.PlaceMode.TheVariants.{Readonly}
 use Rattle.sharc_flat_laws.specs.Tables.{AllWait, IsEntered, MadeWaits}
 

@@ -1,5 +1,5 @@
 -- What a thread of a typed program holds is held on, or given up.
-use Rattle.sharc_wants_laws.proofs.{Imports.{◌≡◌, ℕ, ◌+◌, ◌≤◌, ◌||◌, [], ◌∷◌, refl, sym, ap, ◌∙◌, subst, arith, length, Some, Function, is_struct_behind, declared_kind, Resolution, functions_in, function_at, EachNamesItself, MeetsConstraints, OneType, MeetsStatements, ArePlain, asked_by, run_thread, held_count, wants, ended, stopped, spent, Out, go, over, released, HeldAreHeldOn, no_struct, at_place}, Counts.{total, total_is}, Runs.state_of, Typed.Facts, Calls.{Known, thread_kept}}
+use Rattle.sharc_wants_laws.proofs.{Imports.{◌≡◌, ℕ, ◌+◌, ◌≤◌, refl, sym, ap, ◌∙◌, subst, arith, length, Some, Function, is_struct_behind, declared_kind, Resolution, functions_in, function_at, EachNamesItself, MeetsConstraints, OneType, MeetsStatements, ArePlain, asked_by, run_thread, held_count, wants, ended, stopped, spent, Out, go, over, released, HeldAreHeldOn, no_struct, at_place}, Counts.{total, total_is}, Runs.state_of, Typed.Facts, Calls.{Known, thread_kept}}
 use Rattle.sharc_meaning.specs.Meaning.{start}
 use Rattle.sharc_wants_laws.proofs.Runs as runs
 

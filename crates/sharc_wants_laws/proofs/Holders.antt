@@ -1,5 +1,5 @@
 -- At a test that passed no cell is a reference to the object by the history, nor is anything else but the one that is tested.
-use Rattle.sharc_wants_laws.proofs.Imports.{◌≡◌, ◌⊎◌, ⊎_elim, ℕ, pos, ◌+◌, ◌-◌, ◌<◌, ◌≤◌, true, false, List, ◌∷◌, length, Option, Some, None, refl, sym, ap, ◌∙◌, subst, arith, cases_lt, slice_index, get_or as slice_index_or, Object, SourceEvent, GlobalForm, Assignment, latest, makes, Holder, References, in_argument, in_cell, in_mutex, in_thread, is_pointer_of, is_pointer_of_made, is_taken_to_free, refers, form_value, global_value, initial_value, value_after, Code, Shape, int_of, Fits, IsInGlobal, first_cell_of as first_place, Turn, no_global, CheckedRun, globals_of, Content, Pointer, global_field, Labels, Initial, IsWellTyped, IsSmall, history_of, GlobalPointersAreKept, MadePointersAreKept, OthersAreInitial, BeginsWith, GlobalsPoint, IsPointerInTable, HasTables, targets_of, Passes, tested_object, ArgumentsHoldNone, CellsHoldNone, FreedAreTaken, MutexesHoldNone, ThreadsHoldNone, yes}
+use Rattle.sharc_wants_laws.proofs.Imports.{◌≡◌, ⊎_elim, ℕ, pos, ◌+◌, ◌-◌, ◌<◌, ◌≤◌, true, false, List, ◌∷◌, length, Option, Some, None, refl, sym, ap, ◌∙◌, subst, arith, cases_lt, slice_index, get_or as slice_index_or, Object, SourceEvent, GlobalForm, Assignment, latest, makes, Holder, References, in_argument, in_cell, in_mutex, in_thread, is_pointer_of, is_pointer_of_made, is_taken_to_free, refers, form_value, global_value, initial_value, value_after, Code, Shape, int_of, Fits, IsInGlobal, first_cell_of as first_place, Turn, no_global, CheckedRun, globals_of, Content, Pointer, global_field, Labels, Initial, IsWellTyped, IsSmall, history_of, GlobalPointersAreKept, MadePointersAreKept, OthersAreInitial, BeginsWith, GlobalsPoint, IsPointerInTable, HasTables, targets_of, Passes, tested_object, ArgumentsHoldNone, CellsHoldNone, FreedAreTaken, MutexesHoldNone, ThreadsHoldNone, yes}
 use Rattle.sharc_ctype.specs.Globals.{elements_of}
 use Rattle.sharc_invariant.specs.Types.{is_pointer}
 

@@ -12,6 +12,7 @@ pub mod Alone
 pub mod Beginning
 pub mod Cause
 pub mod Cells
+pub mod Coming
 pub mod Copying
 pub mod Counting
 pub mod Elsewhere

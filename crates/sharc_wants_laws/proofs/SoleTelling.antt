@@ -1,5 +1,5 @@
 -- Where the threads of a run are, among the events of all threads.
-use Rattle.sharc_wants_laws.proofs.{Imports.{◌≡◌, ℕ, inl, inr, ⊎_elim, ◌⊎◌, List, [], map, sym, ◌∙◌, subst, ◌==◌, SourceEvent, Assignment, events_of, by, Code, Machine, begun, Shape, Turn, turns_of, CheckedRun, place_after, MayStart, IsConsistent, elements_before, founds_of, RunsHavePaths, IsHolding, IsHoldingThere, IsHoldingIn, PathsHold, lowered_of}, Telling.{split, history_of, machine_of, said_of, IsAtStart, start_own, begun_own, own_events}}
+use Rattle.sharc_wants_laws.proofs.{Imports.{◌≡◌, ℕ, inl, inr, ⊎_elim, ◌⊎◌, List, [], map, sym, ◌∙◌, subst, SourceEvent, Assignment, events_of, by, Code, Machine, begun, Shape, Turn, turns_of, CheckedRun, place_after, MayStart, IsConsistent, elements_before, founds_of, RunsHavePaths, IsHolding, IsHoldingThere, IsHoldingIn, PathsHold, lowered_of}, Telling.{split, history_of, machine_of, said_of, IsAtStart, start_own, begun_own, own_events}}
 
 module _ (paths : RunsHavePaths) (m : Assignment) (code : Code) (holds : PathsHold m code) (s : Shape) (run : List Turn) (checked : CheckedRun code s run)
     (consistent : (t : ℕ) → IsConsistent code s (begun code s t) (elements_before code s t run) (founds_of (turns_of t run))) where

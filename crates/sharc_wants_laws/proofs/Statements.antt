@@ -1,5 +1,5 @@
 -- Statements of a typed program lose no reference.
-use Rattle.sharc_wants_laws.proofs.{Imports.{ℕ, Bool, true, false, List, [], ◌∷◌, ◌++◌, refl, sym, ap, ◌∙◌, Option, Some, None, unsigned_abs, ℤ, pos, IfSome, AllByRecursion, Act, GlobalNumber as Global, Made, Site, Declaration, WrittenType, expressions, in_option, in_right, in_simple, in_local, in_first, in_head, in_statement, in_statements, span_of, Expression, cast, Right, value, malloc, Simple, assign, does_call, Local, First, nothing, declares, does, Statement, empty, block, declare, simple, jump, return, if_then, if_then_else, while, for, Statements, no_statements, statement, Trap, Named, Kind, is_pointer, declared_kind, Resolution, kind_at, variable_kind, first_locals, locals_in, locals_in_all, cell_at, pointed, Assignment, written, row_at, declared_row, Sharing, private, HasType, IsItself, MeetsSimple, MeetsFirst, Meets, AllMeet, element_cells, instance_mode, Run, StorePlace, variable, cell, stored, Calls, tested, eval, Flow, next, returned, on_next, left_by, elements_made, is_positive, right_value, done_simple, initialised, declared, done_first, done_step, done_test, return_with, exec_all, front, back}, Runs.{Same, Starts, starts_on}, Typed.{Facts, Names, names_start, declared_reference, no_function_held}, Expressions.{Kept, Keeps, kept_give, kept_either, tested_kept, fitting_kept, CallsKeep, eval_kept, place_kept}}
+use Rattle.sharc_wants_laws.proofs.{Imports.{ℕ, Bool, true, false, List, ◌++◌, refl, sym, ap, ◌∙◌, Option, Some, None, unsigned_abs, ℤ, pos, IfSome, AllByRecursion, Act, GlobalNumber as Global, Made, Site, Declaration, WrittenType, expressions, in_option, in_right, in_simple, in_local, in_first, in_head, in_statement, in_statements, span_of, Expression, cast, Right, value, malloc, Simple, assign, does_call, Local, First, nothing, declares, does, Statement, empty, block, declare, simple, jump, return, if_then, if_then_else, while, for, Statements, no_statements, statement, Trap, Named, Kind, is_pointer, declared_kind, Resolution, kind_at, variable_kind, first_locals, locals_in, locals_in_all, cell_at, pointed, Assignment, written, row_at, declared_row, Sharing, private, HasType, IsItself, MeetsSimple, MeetsFirst, Meets, AllMeet, element_cells, instance_mode, Run, StorePlace, variable, cell, stored, Calls, tested, eval, Flow, next, returned, on_next, left_by, elements_made, is_positive, right_value, done_simple, initialised, declared, done_first, done_step, done_test, return_with, exec_all, front, back}, Runs.{Same, Starts, starts_on}, Typed.{Facts, Names, names_start, declared_reference, no_function_held}, Expressions.{Kept, Keeps, kept_give, kept_either, tested_kept, fitting_kept, CallsKeep, eval_kept, place_kept}}
 use Rattle.sharc_meaning.specs.Statements.{exec}
 use Rattle.sharc_wants_laws.proofs.Runs as runs
 use Rattle.sharc_wants_laws.proofs.Steps as steps

@@ -1,5 +1,5 @@
 -- What typing says of the places that expressions name, and of the temporaries that hold their values.
-use Rattle.sharc_wants_laws.proofs.{Imports.{◌≡◌, inl, inr, ℕ, ◌+◌, ◌==◌, Bool, true, false, ◌||◌, ◌&&◌, List, [], ◌∷◌, ◌++◌, refl, sym, ap, ◌∙◌, subst, arith, append-nil, lt-ltb, Some, false≢true, ℤ, Base, GlobalNumber as Global, Made, NumberType, Declaration, Identifier, WrittenType, Constant, is_lvalue, Expression, Function, Named, Kind, object, array, is_pointer, is_array, is_struct_base, is_struct_behind, declared_kind, constant_kind, number_kind, Resolution, kind_at, function_at, declaration_at, variable_kind, HasType, Callee, of_program, of_conditions, IsInteger, IsPointer, Common, both_shorter, Assignable, integer, pointer, null_pointer, a_variable, a_global, a_function, a_constant, in_parentheses, element_of_pointer, element_of_array, a_call, a_field, a_field_behind, complemented, pointed_to, arithmetic, shifted, a_cast, IsHeld, is_reference, StorePlace, variable, cell, place_named, field_in, or_false, no, some_star, negated}, Runs.Starts}
+use Rattle.sharc_wants_laws.proofs.{Imports.{◌≡◌, inl, inr, ℕ, ◌+◌, Bool, true, false, ◌||◌, ◌&&◌, List, [], ◌∷◌, ◌++◌, refl, sym, ap, ◌∙◌, subst, arith, append-nil, lt-ltb, Some, false≢true, ℤ, Base, GlobalNumber as Global, Made, NumberType, Declaration, Identifier, WrittenType, Constant, is_lvalue, Expression, Function, Named, Kind, object, array, is_pointer, is_array, is_struct_base, is_struct_behind, declared_kind, constant_kind, number_kind, Resolution, kind_at, function_at, declaration_at, variable_kind, HasType, Callee, of_program, of_conditions, IsInteger, IsPointer, Common, both_shorter, Assignable, integer, pointer, null_pointer, a_variable, a_global, a_function, a_constant, in_parentheses, element_of_pointer, element_of_array, a_call, a_field, a_field_behind, complemented, pointed_to, arithmetic, shifted, a_cast, IsHeld, is_reference, StorePlace, variable, cell, place_named, field_in, or_false, no, some_star, negated}, Runs.Starts}
 use Rattle.sharc_names.specs.Kinds.{is_null}
 use Rattle.sharc_names.specs.Kinds as kinds
 

@@ -1,22 +1,11 @@
 -- From the place of a thread of code to what the program wants.
-use Rattle.sharc_wants_laws.proofs.{Imports.{◌≡◌, ℕ, zero, suc, ℤ, pos, ◌+◌, ◌<◌, inl, inr, ⊎_elim, Bool, true, false, List, [], ◌∷◌, length, map, refl, sym, ap, ◌∙◌, Some, subst, arith, IsSomeAnd, get_or as slice_index_or, Act, CellAt, CellMode, SourceEvent, Site, Taken, function_at, Assignment, Access, access_by, held_mutexes, IsNamedAt, answers_of, is_null, number_of, Outcome, wants, ended, stopped, event_of, Code, Row as Function, SourcePlace, Cell, Instr, CondWait, Load, Store, LoadRef, Exchange, TakeCell, ChkRead, ChkWrite, ChkLock, ChkLockLoaded, Exit, Shape, Runs, Stopped, Ended, Stop, Conflict, NoLock, NotSole, Trapped as Trap, Machine, instr_at, no_function, function_of, kind_of, made_cell, place_at, no_place, Flat, At, Came, asks, halts, turn, on_turn, exec, start, at_after, asked, AsksTheSame, MayStart, Guarded, Program, Thread, Check, Accesses, Locks, IsSole, is_held, source_at, statement_at, started, thread_after, Guards, IsAccess, IsOf, IsUnder, Tells, LogsAreHeld, Elements, begins, HasCome, IsGenerated, instr_of, program_of, IsAt, IsLinking, IsOver, Same, StopsAt, ChecksNext, IsRefused, IsReport, WantsRefused, site_of, WantsAct, WantsAccess, WantsBy, StopsOrWantsUnder, IsWhere, IsThere, access_at, access_tested, int}, Cells.{int_is, cell_is, access_is, pending_number}}
+use Rattle.sharc_wants_laws.proofs.{Imports.{◌≡◌, ℕ, suc, ℤ, pos, inl, inr, ⊎_elim, Bool, true, false, List, [], map, refl, sym, ap, ◌∙◌, Some, subst, IsSomeAnd, get_or as slice_index_or, Act, CellAt, CellMode, SourceEvent, Site, Taken, Assignment, Access, access_by, held_mutexes, is_null, number_of, Outcome, wants, ended, stopped, event_of, Code, Row as Function, SourcePlace, Cell, Instr, CondWait, Load, Store, LoadRef, Exchange, TakeCell, ChkRead, ChkWrite, ChkLock, ChkLockLoaded, Shape, Runs, Stopped, Ended, Stop, Conflict, NoLock, NotSole, Trapped as Trap, Machine, instr_at, kind_of, made_cell, place_at, no_place, Flat, At, asks, halts, turn, on_turn, exec, MayStart, Program, Thread, Check, Accesses, Locks, IsSole, is_held, source_at, statement_at, IsAccess, IsOf, IsUnder, Tells, LogsAreHeld, Elements, begins, instr_of, IsAt, IsLinking, IsOver, Same, StopsAt, ChecksNext, IsRefused, IsReport, site_of, WantsAct, WantsAccess, WantsBy, StopsOrWantsUnder, IsWhere, IsThere, access_at, access_tested, int}, Coming.{Coming, asked_events, comes, instr_is, is_named, rest, there, told, with_some}, Cells.{int_is, cell_is, access_is, pending_number}}
 use Rattle.sharc_tree.specs.declared.trap.Trap.TheVariants as traps
 use Rattle.sharc_heap.specs.declared.shadow_word.Kind.{Kind}
-use Rattle.sharc_meaning.specs.Meaning as Meaning
 use Rattle.sharc_code.specs.{declared.instr.Instr.TheVariants.{Lock, Join}, Says.cell_at}
-use Rattle.sharc_flat.specs.{Machine.{Turn}, Quiet.{PathLaws, given_in}}
+use Rattle.sharc_flat.specs.{Machine.{Turn}}
 use Rattle.sharc_guard.specs.Machine as Form
 use Rattle.sharc_compile.specs.Correct.{by}
-
--- ---- instructions
-pub mapped_at : (f : Instr → Instr) (xs : List Instr) (n : ℕ) → f Exit ≡ Exit → slice_index_or (map f xs) n Exit ≡ f (slice_index_or xs n Exit)
-mapped_at f [] n e = sym e
-mapped_at f (x ∷ xs) zero e = refl
-mapped_at f (x ∷ xs) (suc n) e = mapped_at f xs n e
-
-pub answers_by : (t : ℕ) (es : List SourceEvent) → answers_of (map (by t) es) ≡ answers_of es
-answers_by t [] = refl
-answers_by t (e ∷ es) = ap (λ xs. e.answer ∷ xs) (answers_by t es)
 
 -- ---- one turn of flat code
 module _ (flat : Flat) (m2 : At) (k : ℕ) (p : Program) where
@@ -125,90 +114,61 @@ module _ (flat : Flat) (m2 : At) (k : ℕ) (code : Code) (p : Program) (globals 
       by_stop (Trap trap n) r h = absurd r
 
 -- ---- a path
-module _ (paths : PathLaws) (logs : LogsAreHeld) (m : Assignment) (flat : Flat) (same : AsksTheSame m flat) (dropped : ℕ → Bool) (p : Program) (guards : Guards dropped flat p) (count : length p.functions ≡ length flat.functions)
-    (g : Guarded) (code : Code) (made : program_of g ≡ p) (is : IsGenerated g code) (named : (f : ℕ) → f < length code.functions.items → IsNamedAt (function_at m.typed f) (function_of code f).site)
-    (s : Shape) (T : Elements) (thread : ℕ) (at : Machine) (said : List SourceEvent) (lowered : List ℕ) (paced : ℕ) (h : HasCome code s p T thread at said lowered paced) where
-  instr_is : (pc : ℕ) → instr_at code pc ≡ instr_of g.functions.items (statement_at p pc)
-  instr_is pc =
-      ap (λ is. slice_index_or is pc Exit) is.instrs ∙ mapped_at (instr_of g.functions.items) g.statements.items pc refl ∙ ap (λ (q : Program). instr_of g.functions.items (statement_at q pc)) made
+module _ (logs : LogsAreHeld) {m : Assignment} {code : Code} {s : Shape} {T : Elements} {thread : ℕ} {at : Machine} {said : List SourceEvent} {lowered : List ℕ} (w : Coming m code s T thread at said lowered) where
+  sites : (n : ℕ) → source_at w.p n ≡ place_at code n
+  sites n = sym (ap (λ v. slice_index_or v.items n no_place) w.is.sites ∙ ap (λ (q : Program). source_at q n) w.made)
 
-  sites : (n : ℕ) → source_at p n ≡ place_at code n
-  sites n = sym (ap (λ v. slice_index_or v.items n no_place) is.sites ∙ ap (λ (q : Program). source_at q n) made)
-
-  globals : p.globals ≡ code.globals.items
-  globals = ap (λ (q : Program). q.globals) (sym made) ∙ ap (λ v. v.items) (sym is.globals)
-
-  functions : p.functions ≡ code.functions.items
-  functions = ap (λ (q : Program). q.functions) (sym made) ∙ ap (λ v. v.items) (sym is.functions)
-
-  known : h.function < length flat.functions
-  known = let k = h.known in let e = count in omega arith
+  globals : w.p.globals ≡ code.globals.items
+  globals = ap (λ (q : Program). q.globals) (sym w.made) ∙ ap (λ v. v.items) (sym w.is.globals)
 
   abbrev a : Thread
-  a = thread_after p (started p h.function h.argument) h.answers
+  a = there w
 
   -- what is said of the turn of flat code that is next
-  module _ (m2 : At) (k : ℕ) (tells : Tells p (Form.turn p a) (turn flat m2)) where
-    next_by : WantsBy code at (o flat m2 k p) (instr_at code at.at.pc)
+  module _ (k : ℕ) where
+    next_by : WantsBy code at (o w.flat (rest w) k w.p) (instr_at code at.at.pc)
     next_by = ⊎_elim
-        (λ (y : IsAt code s p T at a). subst (WantsBy code at (o flat m2 k p)) (ap (λ pc. instr_of g.functions.items (statement_at p pc)) y.pc_is ∙ sym (instr_is at.at.pc))
-        (wants_by flat m2 k code p globals sites s T at a y.same g.functions.items (statement_at p a.pc) tells))
-        (λ (l : IsLinking code s p T at a). subst (WantsBy code at (o flat m2 k p)) (sym (instr_is at.at.pc ∙ ap (instr_of g.functions.items) l.statement)) tt)
-        h.stands
+        (λ (y : IsAt code s w.p T at a). subst (WantsBy code at (o w.flat (rest w) k w.p)) (ap (λ pc. instr_of w.g.functions.items (statement_at w.p pc)) y.pc_is ∙ sym (instr_is w at.at.pc))
+        (wants_by w.flat (rest w) k code w.p globals sites s T at a y.same w.g.functions.items (statement_at w.p a.pc) (comes w).stands.tells))
+        (λ (l : IsLinking code s w.p T at a). subst (WantsBy code at (o w.flat (rest w) k w.p)) (sym (instr_is w at.at.pc ∙ ap (instr_of w.g.functions.items) l.statement)) tt)
+        w.has.stands
 
     refused_now : at.at.state ≡ Stopped → (stop : Stop) → at.own.stop ≡ Some stop → IsReport stop
-        → (act : Act) × ((o flat m2 k p) ≡ wants (event_of (place_at code (site_of stop)).site act (pos 0))) × IsRefused stop act a.events
+        → (act : Act) × ((o w.flat (rest w) k w.p) ≡ wants (event_of (place_at code (site_of stop)).site act (pos 0))) × IsRefused stop act a.events
     refused_now was stop e report = ⊎_elim
-        (λ (y : IsAt code s p T at a). refused_by flat m2 k code p globals sites s T at a y.same g.functions.items tells (logs p h.function h.argument h.answers) y.over was stop e report)
-        (λ (l : IsLinking code s p T at a). let z : Runs ≡ Stopped = sym l.state_is ∙ was in absurd (cc))
-        h.stands
+        (λ (y : IsAt code s w.p T at a). refused_by w.flat (rest w) k code w.p globals sites s T at a y.same w.g.functions.items (comes w).stands.tells (logs w.p w.has.function w.has.argument w.has.answers) y.over was stop e report)
+        (λ (l : IsLinking code s w.p T at a). let z : Runs ≡ Stopped = sym l.state_is ∙ was in absurd (cc))
+        w.has.stands
 
-    gone_now : at.at.state ≡ Ended → o flat m2 k p ≡ ended
+    gone_now : at.at.state ≡ Ended → o w.flat (rest w) k w.p ≡ ended
     gone_now gone = ⊎_elim
-        (λ (y : IsAt code s p T at a). let over : IsOver p a Ended at.own.stop = subst (λ st. IsOver p a st at.own.stop) gone y.over in
-        halted flat m2 k p (turn flat m2) refl (subst (λ t. Tells p t (turn flat m2)) over tells))
-        (λ (l : IsLinking code s p T at a). let z : Runs ≡ Ended = sym l.state_is ∙ gone in absurd (cc))
-        h.stands
+        (λ (y : IsAt code s w.p T at a). let over : IsOver w.p a Ended at.own.stop = subst (λ st. IsOver w.p a st at.own.stop) gone y.over in
+        halted w.flat (rest w) k w.p (turn w.flat (rest w)) refl (subst (λ t. Tells w.p t (turn w.flat (rest w))) over (comes w).stands.tells))
+        (λ (l : IsLinking code s w.p T at a). let z : Runs ≡ Ended = sym l.state_is ∙ gone in absurd (cc))
+        w.has.stands
 
-  abbrev told : List SourceEvent
-  told = map (by thread) a.events
-
-  where_by : MayStart m h.function → IsWhere m code thread h.function h.argument told at
+  where_by : MayStart m w.has.function → IsWhere m code thread w.has.function w.has.argument (told w) at
   where_by may =
-      let c = guards h.function h.argument known h.answers h.path in
-      let st = start flat h.function h.argument in
-      let m2 = at_after flat st c.flat_answers in
-      let ga = given_in flat st c.flat_answers in
-      let xs = asked flat st ga in
-      let b = same.back h.function may h.argument xs (length ga + 1) in
-      let f = paths.beyond flat st ga (paths.path flat st c.flat_answers c.path) b.later b.reached in
-      let final : exec flat b.later xs st ≡ exec flat (suc f.more) [] m2 = f.is ∙ ap (exec flat (suc f.more) []) (paths.same flat st c.flat_answers) in
-      let x = Meaning.asks m h.function h.argument xs b.fuel in
-      let outcome : o flat m2 f.more p ≡ x.outcome = ap (λ (c : Came). c.outcome) (sym final) ∙ b.same.outcome in
-      let events : a.events ≡ x.events = c.stands.events ∙ sym (paths.still flat (suc f.more) m2).0 ∙ ap (λ (c : Came). c.at.events) (sym final) ∙ b.same.events in
-      let answers : xs ≡ answers_of told = paths.own flat h.function h.argument c.flat_answers ∙ ap answers_of (sym c.stands.events) ∙ sym (answers_by thread a.events) in
+      let f = with_some w may in
+      let r = f.1 in
       record {
-        fuel = b.fuel;
-        events = ap (λ xs. map (by thread) (Meaning.asks m h.function h.argument xs b.fuel).events) (sym answers) ∙ ap (map (by thread)) (sym events);
-        next = subst (λ xs. WantsBy code at (Meaning.asks m h.function h.argument xs b.fuel).outcome (instr_at code at.at.pc)) answers
-            (subst (λ o. WantsBy code at o (instr_at code at.at.pc)) outcome (next_by m2 f.more c.stands.tells));
-        refused = subst (λ xs. WantsRefused code at (Meaning.asks m h.function h.argument xs b.fuel)) answers
-            (λ was stop e report.
-            let q = refused_now m2 f.more c.stands.tells was stop e report in
-            (q.0, sym outcome ∙ q.1, subst (IsRefused stop q.0) events q.2));
-        gone = λ gone. ap (λ xs. (Meaning.asks m h.function h.argument xs b.fuel).outcome) (sym answers) ∙ sym outcome ∙ gone_now m2 f.more c.stands.tells gone;
+        fuel = f.0;
+        events = ap (map (by thread)) (sym (asked_events w f.0 r));
+        next = subst (λ o. WantsBy code at o (instr_at code at.at.pc)) r.1.outcome (next_by r.0);
+        refused = λ was stop e report. let q = refused_now r.0 was stop e report in (q.0, sym r.1.outcome ∙ q.1, subst (IsRefused stop q.0) (asked_events w f.0 r) q.2);
+        gone = λ gone. sym r.1.outcome ∙ gone_now r.0 gone;
       }
 
-  pub there : IsThere m code thread at said
-  there = record {
-    function = h.function;
-    argument = h.argument;
-    begins = by thread (begins p h.function h.argument);
+  pub is_there : IsThere m code thread at said
+  is_there = record {
+    function = w.has.function;
+    argument = w.has.argument;
+    begins = by thread (begins w.p w.has.function w.has.argument);
     after = a.events;
-    starts = h.events;
+    starts = w.has.events;
     own = refl;
     act = refl;
     answer = refl;
-    site = subst (λ (fs : List Function). IsNamedAt (function_at m.typed h.function) (slice_index_or fs h.function no_function).site) (sym functions) (named h.function (subst (λ (fs : List Function). h.function < length fs) functions h.known));
+    site = is_named w;
     stands = where_by;
   }

@@ -20,14 +20,14 @@ use crate::meant::{held_are_held_on, last_takers, taken_are_being_taken};
 use sharc_accepted_laws::targets::{global_pointers_are, globals_point};
 use sharc_code::run_laws;
 use sharc_compile::{paths_law, run_paths_law};
-use sharc_compile_laws::flattened::{made_locks_stand, typed_is_level};
+use sharc_compile_laws::flattened::typed_counts;
 use sharc_compile_laws::{
     functions_are_named, spawned_are_threads, threads_may_start, typed_threads_tell,
 };
 use sharc_ctype_laws::laws::each_names_itself;
 use sharc_flat::form_laws::path_laws;
 use sharc_flat_laws::laws::{typed_asks_the_same, typed_is_framed};
-use sharc_guard::{counted_law, framed_law};
+use sharc_guard::framed_law;
 use sharc_history_laws::{
     causes_law, cells_seen_law, grows_law, kept_law, paths_law as history_paths_law,
     pointers_kept_law, pointers_made_law, reports_law, seen_law, starts_law,
@@ -42,12 +42,10 @@ pub fn path_holds()
 {
     typed_asks_the_same();
     typed_is_framed();
-    typed_is_level();
-    made_locks_stand();
+    typed_counts();
     functions_are_named();
     paths_law();
     framed_law();
-    counted_law();
     path_laws();
 }
 
@@ -80,14 +78,12 @@ pub fn held_registered()
     path_holds();
     typed_asks_the_same();
     typed_is_framed();
-    typed_is_level();
-    made_locks_stand();
+    typed_counts();
     functions_are_named();
     each_names_itself();
     paths_law();
     run_paths_law();
     framed_law();
-    counted_law();
     path_laws();
 }
 

@@ -4,11 +4,11 @@ ghost use Rattle.sharc_compile_laws.specs.Paths.{OfTyped};
 ghost use Rattle.sharc_wants_laws.specs.Wants.{PathsWant, ThreadsWant};
 
 use sharc_compile::{paths_law, run_paths_law};
-use sharc_compile_laws::flattened::{made_locks_stand, typed_is_level};
+use sharc_compile_laws::flattened::typed_counts;
 use sharc_compile_laws::functions_are_named;
 use sharc_flat::form_laws::path_laws;
 use sharc_flat_laws::laws::{typed_asks_the_same, typed_is_framed};
-use sharc_guard::{counted_law, framed_law, log_law};
+use sharc_guard::{framed_law, log_law};
 
 /// Each path of a thread of the code of a typed, well-moded program, whose results are consistent, has not begun, or is
 /// where the program is that was asked by the answers of its events: that wants next the Lock, the Join or the Woken
@@ -19,12 +19,10 @@ pub fn path_wants()
 {
     typed_asks_the_same();
     typed_is_framed();
-    typed_is_level();
-    made_locks_stand();
+    typed_counts();
     functions_are_named();
     paths_law();
     framed_law();
-    counted_law();
     log_law();
     path_laws();
 }

@@ -1,4 +1,4 @@
-use Rattle.sharc_wants_laws.proofs.{Imports.{◌≡◌, ◌⊎◌, ⊎_elim, ◌+◌, [], ◌∷◌, ◌++◌, sym, ap, ◌∙◌, Emptied, events_of, Begun, ref, place_after, MayStart, history_of, objects_there}, Cause.{clearing_empties, register_there, same_register}, Freed.last_taken}
+use Rattle.sharc_wants_laws.proofs.{Imports.{◌≡◌, ⊎_elim, ◌+◌, [], ◌∷◌, ◌++◌, sym, ap, ◌∙◌, Emptied, events_of, Begun, ref, place_after, MayStart, history_of, objects_there}, Cause.{clearing_empties, register_there, same_register}, Freed.last_taken}
 use Rattle.sharc_wants_laws.proofs.sole.freed_are_taken.Goals as goal
 
 pub returns : goal.returns

@@ -1,35 +1,18 @@
-use Rattle.sharc_wants_laws.proofs.{Imports.{◌≡◌, ℕ, length, ⊎_elim, subst, sym, Bool, reverse, paced_in, begun, machine_after, turns_of, Erase, FlatCode, flat_of, said_in, IsBeginning, HasCome, program_of, lowered_in, elements_before, founds_of, told_in, guarded, dropped, IsMade, Guarded, IsGuarded, HoldsRegistered}, Keeping.{not_silent, registered}, Registering.registered_there, SoleTelling.{events_are, place_is}}
+use Rattle.sharc_wants_laws.proofs.{Imports.{⊎_elim, subst, sym, reverse, begun, machine_after, turns_of, Erase, said_in, elements_before, founds_of, told_in, HoldsRegistered}, Coming.paths_come, Keeping.{not_silent, registered}, SoleTelling.{events_are, place_is}}
 use Rattle.sharc_wants_laws.proofs.sole.held_registered.Goals as goal
-
--- guarded code that was made, as a program
-same : (d : ℕ → Bool) (flat : FlatCode) (g : Guarded) → IsMade d flat g → program_of g ≡ guarded d (flat_of flat)
-same d flat g made = λ i. record { statements = made.statements i; functions = made.functions i; globals = (made.globals i).items; sites = made.sites i }
 
 pub returns : goal.returns
 returns c = λ m p flat flattens fits code is s run checked consistent thread b may.
-    let asks = c.typed_asks_the_same.ensures m p.resolved p.placed p.low p.least p.well_moded flat flattens in
-    let framed = c.typed_is_framed.ensures m p.resolved p.placed p.low p.least p.well_moded flat flattens fits in
-    let level = c.typed_is_level.ensures m p.resolved p.placed p.low p.least p.well_moded flat flattens in
-    let locks = c.made_locks_stand.ensures m flat flattens in
     let names = c.each_names_itself.ensures m.typed p.resolved p.placed p.low in
-    let d = dropped (flat_of flat) in
-    let made = same d flat is.g is.made in
-    let good : IsGuarded (program_of is.g) = subst IsGuarded (sym made) (c.framed_law.ensures (flat_of flat) d framed.1) in
     let holds = c.path_holds.ensures m p flat flattens fits code is in
     let R = reverse (told_in (Erase code s run)) in
     let elements = elements_before code s thread run in
     let founds = founds_of (turns_of thread run) in
-    let first = begun code s thread in
-    let at = machine_after code s first founds in
-    let said = said_in code s first elements founds in
-    let lowered = lowered_in code s first elements founds in
-    let paced = paced_in code s first founds in
-    let path = (c.run_paths_law.ensures code s thread run checked).path in
+    let at = machine_after code s (begun code s thread) founds in
+    let said = said_in code s (begun code s thread) elements founds in
     let events = events_are c.run_paths_law.ensures m code holds s run checked consistent thread in
     subst (λ at. HoldsRegistered code at b) (sym (place_is c.run_paths_law.ensures m code holds s run checked consistent thread))
     (⊎_elim
-    (λ (h : IsBeginning at said paced). absurd (not_silent m names code R thread at said events b may h.nothing))
-    (λ (h : HasCome code s (program_of is.g) (elements (length founds)) thread at said lowered paced).
-    registered m names code R thread at said events b may
-    (registered_there c.path_laws.ensures c.counted_law.ensures m (flat_of flat) asks level locks d is.g code made is.generated (c.functions_are_named.ensures.named m flat flattens code is) s (elements (length founds)) thread at said lowered paced h))
-    (c.paths_law.ensures is.g code is.generated good s thread elements founds path (consistent thread)))
+    (λ h. absurd (not_silent m names code R thread at said events b may h.nothing))
+    (λ w. registered m names code R thread at said events b may w)
+    (paths_come c.typed_asks_the_same.ensures c.typed_is_framed.ensures c.typed_counts.ensures c.functions_are_named.ensures.named c.framed_law.ensures c.paths_law.ensures c.path_laws.ensures m p flat flattens fits code is s thread elements founds (c.run_paths_law.ensures code s thread run checked).path (consistent thread)))

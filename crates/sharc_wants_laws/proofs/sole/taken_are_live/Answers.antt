@@ -1,4 +1,4 @@
-use Rattle.sharc_wants_laws.proofs.{Imports.{◌≡◌, ◌≢◌, ◌⊎◌, ⊎_elim, ℕ, ◌+◌, ◌==◌, true, not, ◌&&◌, List, [], ◌∷◌, ◌++◌, sym, ap, ◌∙◌, arith, eq-eqb, get_or, pos, SourceEvent, events_of, Asked, number_of, Begun, asked_with, refers, answers_of, Outcome, spent, wants, place_after, MayStart, history_of, objects_there}, Only.registered_live}
+use Rattle.sharc_wants_laws.proofs.{Imports.{◌≡◌, ◌≢◌, ⊎_elim, ℕ, ◌+◌, ◌==◌, true, not, ◌&&◌, List, [], ◌∷◌, ◌++◌, sym, ap, ◌∙◌, arith, eq-eqb, get_or, pos, SourceEvent, events_of, Asked, number_of, Begun, asked_with, refers, answers_of, Outcome, spent, wants, place_after, MayStart, history_of, objects_there}, Only.registered_live}
 use Rattle.sharc_wants_laws.proofs.sole.taken_are_live.Goals as goal
 
 no_last : (before : List SourceEvent) (e : SourceEvent) → before ++ e ∷ [] ≡ [] → ⊥
