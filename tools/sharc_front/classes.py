@@ -4,7 +4,7 @@ A class says how its pointers are represented: as pointers to objects of the hea
 taken are some), as numbers of elements of one global (1 is element 0, 0 is NULL), as numbers of functions, or as the
 integers that a `void *` carries."""
 
-from .ctype import Refusal
+from .ctype import VOID, Refusal
 
 HEAP = ("heap", "boxes")
 
@@ -19,20 +19,19 @@ def unify(one, other):
 
 class Node:
     """A class, or a part of one that was united with another: `find` gives the whole."""
-    def __init__(self, every, to=None):
+    def __init__(self, every, to=VOID):
         self.every, self.parent = every, None
-        self.globals, self.functions = {}, {}  # as sets in order: (symbol, path of members), symbols
+        self.globals, self.functions = {}, {}  # as sets in order: (variable, members to a part of it ..), symbols
         self.types, self.seen = {}, set()  # seen: heap, integer, order, taken, or indexed (another element is used)
-        self.parts = {}  # the classes of pointers to other elements ("element",), and to members ("member", ..)
+        self.parts = {}  # the classes of pointers to other elements ("element"), and to members
         every.append(self)
-        if to:
-            self.point_to(to)
+        self.point_to(to)
 
     def find(self):
         self.parent = self.parent and self.parent.find()
         return self.parent or self
 
-    def part(self, *key):
+    def part(self, key):
         root = self.find()
         if key not in root.parts:
             root.parts[key] = Node(self.every)
@@ -40,7 +39,7 @@ class Node:
 
     def element(self):
         """The class of pointers to other elements, or None where nothing has asked for it."""
-        return self.part("element") if ("element",) in self.find().parts else None
+        return self.part("element") if "element" in self.find().parts else None
 
     def mark(self, what):
         self.find().seen.add(what)
@@ -76,11 +75,10 @@ class Node:
         kinds = [kind for kind in words if words[kind]]
         if len(kinds) > 1 or len(root.globals) > 1:
             raise Refusal((place, f"pointer to different things: {', '.join(words[kind] for kind in kinds)}"))
-        if kinds != ["heap"] and (kinds or not {kind.kind for kind in root.types} - {"func"}):
-            return kinds[0] if kinds else "none"
-        if root.element() is root:
+        [how] = kinds or ["heap" if {kind.kind for kind in root.types} - {"func"} else "none"]
+        if how == "heap" and root.element() is root:
             raise Refusal((place, "pointer arithmetic on an object of the heap or a local"))
-        return "boxes" if root.element() else "heap"
+        return "boxes" if how == "heap" and root.element() else how
 
     def pointee_type(self, place):
         types = list(self.find().types)
@@ -88,48 +86,30 @@ class Node:
             raise Refusal((place, f"void * to what is no one type ({', '.join(kind.shown() for kind in types)})"))
         return types[0]
 
-def named(key):
-    """A global or a part of it as in C."""
-    return ".".join((key[0].name,) + key[1])
+def named(chain):
+    """A variable or a part of it as in C."""
+    return ".".join(symbol.name for symbol in chain)
 
-class Classes:
-    def everything(self):
-        return list(dict.fromkeys(node.find() for node in self.nodes))
+def roots(nodes):
+    return list(dict.fromkeys(node.find() for node in nodes))
 
-    def settle(self):
-        """Goes on until elements and members of globals are known: element i of a global is in its class."""
-        for first, whole in self.firsts:
-            first.unite(whole.element() or whole)
-        before = None
-        while before != (now := [(id(root), len(root.globals), len(root.seen)) for root in self.everything()]):
-            before = now
-            for root in map(Node.find, self.everything()):
-                element = root.element()
-                if element and (root.globals and not root.has("heap") or element.has("indexed") or element.element()):
-                    root.unite(element)
-                elif element and root.has("heap"):
-                    element.mark("heap")
-                self.settle_members(root.find())
-
-    def settle_members(self, root):
-        """One step for the pointers to members: `made` is the class of those in objects of the heap."""
-        in_heap = root.has("heap") and not root.globals
-        for (struct, name), node in [(key[1:], node) for key, node in root.parts.items() if key[0] == "member"]:
-            node.find().globals.update({(symbol, path + (name,)): None for symbol, path in root.globals
-                                        if self.part(symbol, path).type.base().name == struct})
-            if in_heap:
-                node.mark("heap")
-                self.structs[struct].fields[name].made.unite(node)
-                self.structs[struct].fields[name].alone |= node.has("taken")
-        for _, _, field in [each for kind in root.types if in_heap for each in self.leaves(kind)]:
-            if field.type.kind == "array":
-                field.made.mark("heap")
-
-    def leaves(self, kind, path=(), apart=False):
-        """The members of a type that are no structs, those of structs in it too: (path, struct, field). `apart`:
-        of an object of the heap, where those that are objects of their own are not laid open."""
-        for name, field in self.structs[kind.name].fields.items() if kind.kind == "struct" else ():
-            if field.type.kind == "struct" and not (apart and field.alone):
-                yield from self.leaves(field.type, path + (name,), apart)
-            elif field.type.kind != "bad":
-                yield path + (name,), kind.name, field
+def settle(nodes, firsts):
+    """Goes on until elements and members of globals are known: element i of a global is in its class."""
+    for first, whole in firsts:
+        first.unite(whole.element() or whole)
+    before = None
+    while before != (now := [(id(root), len(root.globals), len(root.seen)) for root in roots(nodes)]):
+        before = now
+        for root in map(Node.find, roots(nodes)):
+            element = root.element()
+            if element and (root.globals and not root.has("heap") or element.has("indexed") or element.element()):
+                root.unite(element)
+            elif element and root.has("heap"):
+                element.mark("heap")
+            root = root.find()
+            for member, node in [part for part in root.parts.items() if part[0] != "element"]:
+                node.find().globals.update({(*chain, member): None for chain in root.globals
+                                            if chain[-1].type.base().struct is member.struct})
+                if root.has("heap") and not root.globals:
+                    member.address.unite(node)
+                    member.apart |= node.has("taken")

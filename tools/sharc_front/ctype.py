@@ -33,6 +33,7 @@ class Type:
     atomic: bool = field(default=False, compare=False)
     const: bool = field(default=False, compare=False)
     node: object = field(default=None, compare=False)  # of a pointer: the class of all that may point to the same
+    struct: object = field(default=None, compare=False)  # of a struct: its symbol, which has the members
     with_ = replace
 
     def bare(self):
@@ -45,6 +46,18 @@ class Type:
     def cells(self):
         """How many elements of its base an array has."""
         return self.length * self.to.cells() if self.kind == "array" else 1
+
+    def layout(self):
+        """The type as ctypes has it, which lays structs out as gcc does."""
+        known = LAYOUTS.get(self.shown() if self.kind in ("int", "struct") else self.kind)
+        if known or self.kind == "array":
+            return known or self.to.layout() * (self.length or 0)
+        fields = [(name, field.type.layout()) for name, field in self.struct.fields.items()]
+        return type("Layout", (ctypes.Structure,), {"_fields_": fields})
+
+    def size(self):
+        """The size in bytes; 0 where it is not known."""
+        return ctypes.sizeof(self.layout())
 
     def wide(self):
         return self.kind == "int" and CELL[self.name] == "long"

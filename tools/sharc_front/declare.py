@@ -1,13 +1,12 @@
 """Declarations: types, structs, enums, names and their scopes, initialisers and strings (C11 6.2.1, 6.4.5, 6.7)."""
 
-import ctypes
 import re
 
 from pycparser import c_ast as A
-from .classes import Classes, Node, unify
-from .ctype import BAD, BOOL, COND, INT, LAYOUTS, MUTEX, UINT, VOID, Refusal, Type, array
+from .classes import Node, unify
+from .ctype import BAD, BOOL, COND, INT, MUTEX, UINT, VOID, Refusal, Type, array
 from .names import in_c
-from .tree import number
+from .tree import element, number, variable
 
 # the types that a few words name, without `signed` and `int`, in the order of the alphabet
 WORDS = {"": INT, "void": VOID, "pthread_mutex_t": MUTEX, "pthread_spinlock_t": MUTEX, "__sharc_cond": COND,
@@ -16,33 +15,35 @@ WORDS = {"": INT, "void": VOID, "pthread_mutex_t": MUTEX, "pthread_spinlock_t": 
          **{word + " unsigned": Type("int", "u" + word) for word in ("char", "short", "long")}}
 
 class Symbol:
-    """A variable, parameter or function."""
+    """A variable (`kind` global, local or param), member, struct or function."""
     def __init__(self, name, kind, type, place, address=None, out=None, own=False):
         self.name, self.kind, self.type, self.place = name, kind, type, place
-        self.address = address  # class of the pointers to it, or to its elements if it is an array
+        # class of the pointers to it, or to its elements if it is an array; of a member, in objects of the heap
+        self.address = address
         self.out, self.own = out or name, own  # its name in the text that is written; whether it is none of the user's
         self.shared, self.uses = False, 0  # shared: others than its function may change it
-        self.boxed = False  # its address is taken, so it is an object of the heap
-        self.constants, self.rest = {}, []  # of a global: {path: what a part is declared with}, [(path, lines of main)]
+        self.apart = False  # whether it is an object of its own: an array, or one whose address is taken
+        self.struct, self.fields = None, {}  # of a member: its struct; of a struct: {name: member}
+        self.constants, self.rest = {}, []  # of a global: {part: what it is declared with}, [(part, lines of main)]
         self.loop, self.started = 0, []  # how many loops are around it, and around each pthread_create of its address
         self.params, self.definition, self.lines = [], None, []  # of a function, as the next three
         self.gives, self.called, self.header = False, False, False  # gives: a pointer that is not NULL
 
-class Field:
-    def __init__(self, type, place, made):
-        self.type, self.place = type, place
-        self.made = made  # the class of pointers to it, or to its elements if it is an array, in objects of the heap
-        self.alone = type.kind == "array"  # whether it is an object of its own there; also where its address is taken
-
-class Struct:
-    def __init__(self, place):
-        self.place, self.fields = place, {}
+    def leaves(self, around=(), apart=False):
+        """What it consists of that is no struct: itself, or members, each after those around it. `apart`: in an object
+        of the heap, where what is an object of its own is not laid open."""
+        chain = (*around, self)
+        if self.type.kind == "struct" and not (apart and around and self.apart):
+            for member in self.type.struct.fields.values():
+                yield from member.leaves(chain, apart)
+        elif self.type.kind != "bad":
+            yield chain
 
 def place_of(node, otherwise=("", 0)):
     coord = getattr(node, "coord", None)
     return node if isinstance(node, tuple) else (coord.file, coord.line) if coord and coord.file else otherwise
 
-class Declarations(Classes):
+class Declarations:
     def refuse(self, node, what):
         raise Refusal((place_of(node, self.here), what))
 
@@ -52,8 +53,7 @@ class Declarations(Classes):
 
     def report(self, error, what=None):
         """Notes a refusal, or another error as one with this text."""
-        told = error.args if isinstance(error, Refusal) else [(self.here, what)]
-        self.refusals += [about for about in told if about[1] and about not in self.refusals]
+        self.refusals += error.args if isinstance(error, Refusal) else [(self.here, what)]
 
     def fresh(self, name):
         """A name that nothing has, of at most 60 bytes."""
@@ -133,21 +133,22 @@ class Declarations(Classes):
         return self.tags[id(node)]
 
     def t_Struct(self, node):
-        """Its name, as it is written; its members are read where they are given."""
-        if id(node) not in self.tags:
-            tag, wanted = f" {node.name}", node.name or self.typedef_names.get(id(node), "anonymous")
-            known = node.name and (self.scopes if node.decls is None else self.scopes.maps[0]).get(tag)
-            taken = wanted in self.structs or wanted == "anonymous"
-            self.tags[id(node)] = known or (self.fresh(wanted) if taken else wanted)
-            self.scopes.update({tag: self.tags[id(node)]} if node.name and not known else {})
-        name = self.tags[id(node)]
-        struct = self.structs.setdefault(name, Struct(place_of(node, self.here)))
+        """A new struct or a known one; its members are read where they are given."""
+        tag, name = f" {node.name}", node.name or self.typedef_names.get(id(node), "anonymous")
+        tags = self.scopes if node.decls is None else self.scopes.maps[0]
+        struct = self.tags.get(id(node)) or node.name and tags.get(tag)
+        if not struct:
+            name = self.fresh(name) if name in self.structs or name == "anonymous" else name
+            struct = self.structs[name] = Symbol(name, "struct", None, place_of(node, self.here))
+            struct.type = Type("struct", name, struct=struct)
+            self.scopes.update({tag: struct} if node.name else {})
+        self.tags[id(node)] = struct
         for decl in node.decls or () if not struct.fields else ():
-            self.member_of(name, decl)
-        return Type("struct", name)
+            self.read_member(struct, decl)
+        return struct.type
 
-    def member_of(self, struct, decl):
-        """Reads the declaration of a member; its type is bad where it is refused."""
+    def read_member(self, struct, decl):
+        """A member; its type is bad where it is refused."""
         name, kind = getattr(decl, "name", None), BAD
         try:
             self.refuse_if(not name or decl.bitsize, "bit field" if name else "member without a name", decl)
@@ -156,35 +157,26 @@ class Declarations(Classes):
             kind = read
         except Refusal as refusal:
             self.report(refusal)
-        self.structs[struct].fields[name or ""] = Field(kind, place_of(decl, self.here), Node(self.nodes, kind))
-
-    def layout(self, kind):
-        """The type as ctypes has it, which lays structs out as gcc does."""
-        known = LAYOUTS.get(kind.shown() if kind.kind in ("int", "struct") else kind.kind)
-        if known or kind.kind == "array":
-            return known or self.layout(kind.to) * (kind.length or 0)
-        fields = [(name, self.layout(member.type)) for name, member in self.structs[kind.name].fields.items()]
-        return type("Layout", (ctypes.Structure,), {"_fields_": fields})
-
-    def size(self, kind):
-        """The size in bytes; 0 where it is not known."""
-        return ctypes.sizeof(self.layout(kind))
+        struct.fields[name or ""] = member = self.declare(name or "", "member", kind, decl)
+        member.struct = struct
 
     def declare(self, name, kind, type, node):
         symbol = Symbol(name, kind, type, place_of(node, self.here), Node(self.nodes, type))
         symbol.shared = kind == "global" or type.atomic or name in self.addressed
         if kind == "global":
-            symbol.address.globals[(symbol, ())] = None
+            symbol.address.globals[symbol,] = None
         else:
             symbol.address.mark("heap")
-            symbol.boxed = MUTEX in [type, *(field.type for *_, field in self.leaves(type))]
+            mutex = kind != "member" and any(chain[-1].type == MUTEX for chain in symbol.leaves())
+            symbol.apart = mutex or type.kind == "array"
         return symbol
 
     def variable(self, decl, kind):
         type, storage, bare = self.type(decl.type), decl.storage or [], decl.init is None
         known = self.scopes.maps[-1].get(decl.name) if kind == "global" or "extern" in storage else None
         if type.kind == "array" and type.length is None and not bare:
-            type = type.with_(length=1 + max(path[0] for path, _ in self.scalars(type, [decl.init])))
+            whole = variable(Symbol(decl.name, kind, type, self.here))
+            type = type.with_(length=1 + max(place.values()[0].number for place, _ in self.scalars(whole, [decl.init])))
         kind = "global" if {"static", "extern"} & set(storage) else kind
         symbol = known if isinstance(known, Symbol) else self.declare(decl.name, kind, type, decl)
         self.scopes[decl.name] = symbol
@@ -196,35 +188,35 @@ class Declarations(Classes):
             symbol.out = self.fresh(f"{self.function.name}_{decl.name}") if len(self.scopes.maps) > 1 else symbol.out
         return symbol
 
-    def scalars(self, kind, items, path=()):
-        """Takes from `items` what initialises one object: values, each with its path of members and indices (6.7.9)."""
-        item, whole = items[0], kind.kind not in ("array", "struct")
+    def scalars(self, place, items):
+        """Takes from `items` what initialises one object: values, each after the place for it (6.7.9)."""
+        item, kind = items[0], place.type
+        whole = kind.kind not in ("array", "struct")
         if isinstance(item, A.ID) and item.name == "__sharc_init":
             items.pop(0)
         elif getattr(item, "type", None) == "string" and kind.kind == "array" and kind.to.name in ("char", "uchar"):
             for at, byte in enumerate([*self.bytes_of(items.pop(0)), 0][: kind.length]):
-                yield path + (at,), A.Constant("int", str(byte), item.coord)
+                yield element(place, number(at)), A.Constant("int", str(byte), item.coord)
         elif isinstance(item, A.InitList):
             inner = list(items.pop(0).exprs)
-            yield from self.scalars(kind, inner, path) if whole else self.parts(kind, inner, path, True)
+            yield from self.scalars(place, inner) if whole else self.parts(place, inner, True)
         elif whole or kind.kind == "struct" and self.captured(self.value, item)[1].type.kind == "struct":
-            yield path, items.pop(0)
+            yield place, items.pop(0)
         else:
-            yield from self.parts(kind, items, path, False)
+            yield from self.parts(place, items, False)
 
-    def parts(self, kind, items, path, braced):
+    def parts(self, place, items, braced):
         """The same for the parts of an array or a struct: in braces all items, else as many as there are parts."""
-        length = 1 << 20 if kind.length is None else kind.length
-        steps, at = range(length) if kind.kind == "array" else list(self.structs[kind.name].fields), 0
+        is_array, length = place.type.kind == "array", place.type.length
+        steps, at = range(1 << 20 if length is None else length) if is_array else list(place.type.struct.fields), 0
         while items and (braced or at < len(steps) and not isinstance(items[0], A.NamedInitializer)):
             item, more = items[0], []
             if isinstance(item, A.NamedInitializer):
                 name, *more = item.name
-                at = steps.index(name.name if kind.kind == "struct" else self.constant(name))
+                at = steps.index(self.constant(name) if is_array else name.name)
                 items[0] = A.NamedInitializer(more, item.expr) if more else item.expr
-            part = kind.to if kind.kind == "array" else self.structs[kind.name].fields[steps[at]].type
-            inside = path + (steps[at],)
-            yield from self.parts(part, [items.pop(0)], inside, True) if more else self.scalars(part, items, inside)
+            part = element(place, number(steps[at])) if is_array else self.member(place, steps[at])
+            yield from self.parts(part, [items.pop(0)], True) if more else self.scalars(part, items)
             at += 1
 
     def bytes_of(self, node):

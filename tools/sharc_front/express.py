@@ -5,13 +5,14 @@ a value that is written more than once, is in a variable."""
 
 import re
 from dataclasses import dataclass
+from functools import reduce
 
 from pycparser import c_ast as A
 from .classes import Node
 from .ctype import BAD, BITS, BOOL, CHAR, INT, LONG, ULONG, VOID, Type, array, promoted, usual
 from .declare import Declarations, Symbol, place_of
-from .tree import COMPARED, NOTHING, PLACES, TRUTHS, Expr, address, binary, convert, element, joined, number, plus, \
-    variable
+from .tree import COMPARED, NOTHING, PLACES, TRUTHS, Expr, address, binary, convert, element, joined, member, number, \
+    plus, variable
 
 SPOKEN = {"Compound": "statement expression", "Case": "case inside another statement"}
 
@@ -86,18 +87,10 @@ class Expressions(Declarations):
         return place.with_(args=(base, *(self.stable(arg) if isinstance(arg, Expr) else arg for arg in inner)))
 
     def member(self, base, name):
-        fields = self.structs[base.type.base().name].fields
-        field = fields.get(name) or fields[""]  # where one without a name is refused
-        self.refuse_if(field.type.kind == "bad", None)
-        return Expr("member", (base, name), field.type)
-
-    def inner_place(self, base, path):
-        for step in path:
-            base = element(base, number(step)) if isinstance(step, int) else self.member(base, step)
-        return base
-
-    def part(self, symbol, path):
-        return self.inner_place(variable(symbol), path)
+        members = base.type.struct.fields
+        made = member(base, members.get(name) or members[""])  # where one without a name is refused
+        self.refuse_if(made.type.kind == "bad", None)
+        return made
 
     @staticmethod
     def at(value, index):
@@ -133,30 +126,26 @@ class Expressions(Declarations):
         if place.op == "variable":
             return base.address
         if place.op == "member":
-            node = self.address_class(base).part("member", base.type.name, *inner)
-            node.point_to(place.type)
-            return node
+            return self.address_class(base).part(*inner)
         whole, first = self.address_class(base) if place.op == "element" else self.class_of(base), inner[0].null()
         if place.type.kind == "array" or first and not taken:
             return whole
-        node = Node(self.nodes, place.type) if first else whole.part("element")
+        node = Node(self.nodes) if first else whole.part("element")
+        self.firsts += [(node, whole)] * first
         if taken:
             whole.mark("order")
-            node.point_to(place.type)
-            self.firsts += [(node, whole)] * first
         return node
 
     def class_of(self, value):
         """The class of a pointer: from here on the address of what it points to counts as taken."""
         if value.type.node is None:
             place = value.place()
-            local = place.local() if place.type.kind != "array" else None
-            if local:
-                local.boxed = True
-            value.type = value.type.with_(node=self.address_class(place, True))
-            value.type.node.point_to(value.type.to)
-            if place.op == "member":
-                value.type.node.mark("taken")
+            if place.chain() and place.type.kind != "array":
+                place.chain()[0].apart = True
+            node = self.address_class(place, True)
+            node.point_to(value.type.to)
+            node.mark("taken")
+            value.type = value.type.with_(node=node)
         return value.type.node
 
     def visit(self, node, wanted=True):
@@ -213,12 +202,12 @@ class Expressions(Declarations):
             [byte] = self.bytes_of(node)
             return convert(number(byte, "char"), "int")
         self.refuse_if("float" in node.type or "double" in node.type, "floating point", node)
-        digits, suffix = re.fullmatch(r"(.*?)([ul]*)", node.value.lower()).groups()
-        value, names = int(digits, 8 if re.fullmatch("0[0-7]+", digits) else 0), ("int", "uint", "long", "ulong")
-        names = names["u" in suffix :: 2] if digits[0] != "0" or "u" in suffix else names
-        fitting = [name for name in names if not value >> BITS[name] - (name[0] != "u")
-                   and ("l" not in suffix or BITS[name] == 64)]  # the first type that holds it (C11 6.4.4.1)
-        return number(value, fitting[0])
+        digits, unsigned = node.value.lower().rstrip("ul"), "unsigned" in node.type
+        value = int(digits, 8 if digits[0] == "0" and digits.isdigit() else 0)
+        names = ["long", "ulong"] if "long" in node.type else ["int", "uint", "long", "ulong"]
+        names = names[unsigned::2] if digits[0] != "0" or unsigned else names
+        fitting = [name for name in names if not value >> BITS[name] - (name[0] != "u")]
+        return number(value, fitting[0])  # the first type that holds it (C11 6.4.4.1)
 
     def string(self, data):
         """A literal: the number of its first character in an array of all that are written."""
@@ -250,7 +239,7 @@ class Expressions(Declarations):
     def x_CompoundLiteral(self, node, _):
         self.refuse_if(self.function is None, "compound literal outside a function", node)
         symbol = self.declare("literal", "local", self.type(node.type), node)
-        self.declare_local(symbol, self.scalars(symbol.type, [node.init]))
+        self.declare_local(symbol, self.scalars(variable(symbol), [node.init]))
         return variable(symbol)
 
     def x_UnaryOp(self, node, wanted):
@@ -259,7 +248,7 @@ class Expressions(Declarations):
             literal = isinstance(inner, A.Constant) and inner.type == "string"
             kind = array(CHAR, len(self.bytes_of(inner)) + 1) if literal else self.type(inner) \
                 if isinstance(inner, A.Typename) else self.captured(self.visit, inner)[1].type
-            return number(self.size(kind) or self.refuse(node, "sizeof of this type"), "ulong")
+            return number(kind.size() or self.refuse(node, "sizeof of this type"), "ulong")
         if op == "&" and isinstance(inner, A.UnaryOp) and inner.op == "*":
             return self.value(inner.expr)
         if op == "&":
@@ -439,8 +428,8 @@ class Expressions(Declarations):
         """To the parts of a struct or array, or to one cell, from those of another, or a number."""
         kind, whole = target.type, source.type.kind != "int"
         if kind.kind == "struct":
-            for path, _, _ in self.leaves(kind):
-                self.copy(self.inner_place(target, path), self.inner_place(source, path) if whole else source)
+            for _, *members in kind.struct.leaves():
+                self.copy(reduce(member, members, target), reduce(member, members, source) if whole else source)
         elif kind.kind == "array":
             self.counting(number(kind.length), lambda at: self.copy(element(target, at),
                                                                     element(source, at) if whole else source))

@@ -72,7 +72,7 @@ class Library(Statements):
     def l_memcpy(self, args):
         """Also memset, where a number is copied: to elements of more than one byte 0."""
         to, source = (self.stable(self.value(arg)) for arg in args[:2])
-        same = source.type.kind == "int" and (source.null() or self.size(to.type.to) == 1)
+        same = source.type.kind == "int" and (source.null() or to.type.to.size() == 1)
         self.refuse_if(not same and to.type.to.base() != source.type.to.base(), "memcpy of another type")
         length = self.stable(self.count(to.type.to, self.factors(self.value(args[2]))))
         self.counting(length, lambda at: self.copy(self.deref(to, at), source if same else self.deref(source, at)))
@@ -87,7 +87,7 @@ class Library(Statements):
 
     def count(self, kind, factors):
         """How many objects of a type such a size is."""
-        size, constant = self.size(kind), math.prod(f.number for f in factors if f.number is not None)
+        size, constant = kind.size(), math.prod(f.number for f in factors if f.number is not None)
         self.refuse_if(not size or constant % size, "size that is not a number of elements of one type")
         made = number(constant // size, "int" if constant < 1 << 31 else "long")
         for factor in [factor for factor in factors if factor.number is None]:

@@ -20,7 +20,7 @@ def spelled(place):
     if place.op == "variable":
         return base.name
     inner = "?" if place.op == "at" else spelled(base)
-    return f"{inner}.{place.args[1]}" if place.op == "member" else inner
+    return f"{inner}.{place.args[1].name}" if place.op == "member" else inner
 
 def in_lines(accesses):
     return f"line {', '.join(map(str, sorted({access.place[1] for access in accesses})))}"
@@ -28,12 +28,12 @@ def in_lines(accesses):
 class Locksets:
     def __init__(self, front):
         self.front = front
-        self.threads = set(front.thread_functions())
+        self.threads = set(front.records)
         self.entry, before = {}, None
         self.pointers = {}  # {text of a lock: (class of the pointer to its struct, its name)}
         while before != (self.entry, len(self.threads)):  # until nothing more is known of what callers hold
             before, self.accesses = (self.entry, len(self.threads)), {}
-            self.entry = dict.fromkeys(front.thread_functions(), frozenset())
+            self.entry = dict.fromkeys(front.records, frozenset())
             for self.function in front.functions.values():
                 self.follow(self.function.lines, before[0].get(self.function, frozenset()))
 
@@ -50,7 +50,7 @@ class Locksets:
             if line.text.startswith(("lock(&%s", "unlock(&%s")) and held is not None:
                 place, text = line.parts[0], spelled(line.parts[0])
                 if place.op == "member" and place.args[0].op == "at":
-                    self.pointers[text] = (place.args[0].args[0].type.node, place.args[1])
+                    self.pointers[text] = (place.args[0].args[0].type.node, place.args[1].name)
                 held = held - {text} if line.text[0] == "u" or text.startswith("__sharc") else held | {text}
             elif line.text.startswith(("return", "break", "continue")) or " = 1 / " in line.text:
                 held = None
@@ -68,17 +68,13 @@ class Locksets:
             place = place.args[0]
         if tree.op not in PLACES or place.type.base().kind not in ("int", "ptr"):
             return
-        key = self.function, id(place.source or place)
-        name, prefix = spelled(place), None
-        known = place.args[0]
+        symbol, name, prefix = place.args[-1], spelled(place), None
         if place.op == "member":
-            struct, member = known.type.name, place.args[1]
-            prefix, name = name[: -len(member)], f"struct {struct}.{member}"
-            known = self.front.structs[struct].fields[member]
-        elif place.op != "variable" or known.kind != "global" or known.own:
+            prefix, name = name[: -len(symbol.name)], f"struct {symbol.struct.name}.{symbol.name}"
+        elif place.op != "variable" or symbol.kind != "global" or symbol.own:
             return
-        if not (known.type.base().atomic or prefix and (known.type.mode or known.place[0].startswith(HEADERS))):
-            accesses = self.accesses.setdefault(name, {})
+        if not (symbol.type.base().atomic or prefix and (symbol.type.mode or symbol.place[0].startswith(HEADERS))):
+            accesses, key = self.accesses.setdefault(name, {}), (self.function, id(place.source or place))
             written |= key in accesses and accesses[key].written
             locks = {self.named(text, prefix) for text in held} - {None}
             accesses[key] = Access(self.function, line.place, written, self.function in self.threads, locks)
@@ -89,7 +85,7 @@ class Locksets:
             return text[len(prefix):]
         node, name = self.pointers.get(text, (None, None))
         known = list(node.find().globals) if node else []
-        if len(known) == 1 and not known[0][1] and known[0][0].type.kind == "struct":
+        if len(known) == 1 and len(known[0]) == 1 and known[0][0].type.kind == "struct":
             return f"{known[0][0].name}.{name}"
         return text if not set("[*>(") & set(text) and text.split(".")[0] in self.front.global_names else None
 

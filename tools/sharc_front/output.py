@@ -7,7 +7,7 @@ from itertools import accumulate
 from operator import itemgetter
 
 from pycparser import c_ast as A
-from .classes import named
+from .classes import named, roots, settle
 from .ctype import CHAR, UNKNOWN, Refusal, Type, array
 from .declare import Symbol
 from .names import Names, in_c
@@ -28,7 +28,7 @@ class Front(Places):
         self.lines, self.loops, self.notes, self.cells, self.own_names = [], [], [], 0, set()
         self.pinned, self.bound = False, None  # in a function of the headers: the place of the call, and its argument
         self.out_names, self.text_pool, self.calls_by, self.groups = {}, {}, {}, {}
-        self.numbers, self.joins, self.started, self.ends = {}, [], [], []
+        self.numbers, self.records, self.joins, self.started, self.ends = {}, {}, [], [], []
         self.reads_strings, self.helpers = False, set()
         # the variables whose address is taken
         self.addressed = set(re.findall(r"&(\w+)(?:\.\w+)*(?![\w.[]|->)", in_c(source.tree)))
@@ -41,60 +41,55 @@ class Front(Places):
             self.report(Refusal(((words.file, 1), "program without main")))
         if self.refusals:
             raise Refusal(*self.refusals)
-        for symbol in self.thread_functions():
+        for symbol in dict.fromkeys(symbol for node in self.started for symbol in node.find().functions):
+            names = ("record", "start", "take", "table")  # the struct, what is spawned, what takes the argument, starts
+            self.records[symbol] = {name: self.own_name(f"{name}_{symbol.name}") for name in names}
             for node in self.joins if symbol.gives else []:
                 symbol.type.to.node.unite(node)
-        # the names of the struct, the function that is spawned, the one that takes the argument, the table of starts
-        self.records = {symbol: {name: self.own_name(f"{name}_{symbol.name}") for name in
-                                 ("record", "start", "take", "table")} for symbol in self.thread_functions()}
-        self.settle()
+        settle(self.nodes, self.firsts)
         self.merge()
 
     def merge(self):
         """Globals of one type, or members of such structs, to which one pointer may point, become one array."""
-        several = [[*root.globals] for root in self.everything() if len(root.globals) > 1]
-        for keys in sorted(several, key=lambda keys: (max(len(path) for _, path in keys), sorted(map(named, keys)))):
-            kinds = [self.part(symbol, path).type for symbol, path in keys]
-            around = [self.part(symbol, path[:at]).type.kind for symbol, path in keys for at in range(len(path))]
+        several = [[*root.globals] for root in roots(self.nodes) if len(root.globals) > 1]
+        for chains in sorted(several, key=lambda chains: (max(map(len, chains)), sorted(map(named, chains)))):
+            kinds = [chain[-1].type for chain in chains]
+            around = [symbol.type.kind for chain in chains for symbol in chain[:-1]]
             bases, starts = [kind.base() for kind in kinds], [0, *accumulate(kind.cells() for kind in kinds)]
             apart = "array" not in around and not (around and bases[0].kind == "struct")
-            apart &= not any(symbol is self.strings or (symbol, ()) in self.groups for symbol, _ in keys)
+            apart &= not any(chain[0] is self.strings or chain[:1] in self.groups for chain in chains)
             if apart and len({(base, base.mode and base.mode[0]) for base in bases}) == 1:
-                name = "_".join(sorted({symbol.name for symbol, _ in keys}))[:40]
+                name = "_".join(sorted({chain[0].name for chain in chains}))[:40]
                 kind = array(bases[0].with_(const=all(base.const for base in bases)), starts.pop())
-                made = Symbol(name, "global", kind, keys[0][0].place, None, self.fresh(name), True)
-                self.groups.update({key: (made, number(start)) for key, start in zip(keys, starts)})
-        for root in self.everything():
-            root.globals = dict.fromkeys((self.groups[symbol, path][0], ()) if (symbol, path) in self.groups else
-                                         (self.groups.get((symbol, ()), (symbol, 0))[0], path)
-                                         for symbol, path in root.globals)
+                made = Symbol(name, "global", kind, chains[0][0].place, None, self.fresh(name), True)
+                self.groups.update({chain: ((made,), number(start)) for chain, start in zip(chains, starts)})
+        for root in roots(self.nodes):
+            root.globals = dict.fromkeys(self.groups[chain][0] if chain in self.groups else
+                                         self.groups.get(chain[:1], (chain[:1],))[0] + chain[1:]
+                                         for chain in root.globals)
 
     def declaration(self, symbol):
         """A local: a variable; one for each member of a struct; or an object, for an array and what has an address."""
-        kind, texts = symbol.type, []
-        parts = [((), array(kind, 1) if symbol.boxed and kind.kind != "array" else kind)]
-        if kind.kind == "struct" and not symbol.boxed:
-            parts = [(path, field.type.with_(mode=None)) for path, _, field in self.leaves(kind)]
-        for path, part in parts:
-            name, made = self.part_name(symbol, path), ""
-            if part.kind == "array":
-                node = self.address_class(self.part(symbol, path)).find()
-                node.mark("heap")
-                made = " " + self.new_object(name, part.base(), number(part.cells()), self.boxes(node))
-                part = Type("ptr", to=part.base(), node=node)
-            texts.append(f"{self.type_text(part)} {name};{made}")
+        texts = []
+        for chain in [(symbol,)] if symbol.apart else symbol.leaves():
+            name, made, part = self.part_name(*chain), "", chain[-1]
+            kind = part.type if part is symbol else part.type.with_(mode=None)
+            if symbol.apart or kind.kind == "array":
+                made = " " + self.new_object(name, kind.base(), number(kind.cells()), self.boxes(part.address))
+                kind = Type("ptr", to=kind.base(), node=part.address)
+            texts.append(f"{self.type_text(kind)} {name};{made}")
         return " ".join(texts)
 
     def new_object(self, target, kind, length, boxes, inner=""):
         """target = an object of `length` elements, or of pointers to them; `inner`: the mode of these in a struct."""
         self.refuse_if((length.number or 0) > 65536, "object of over 65536 elements")
         plain, one = self.type_text(kind.bare()).replace(" racy", ""), length.number == 1 and not boxes
-        arrays = [(self.part_name(kind.name, path), field) for path, field in self.objects(kind) if not boxes]
+        arrays = [(self.part_name(*chain), chain[-1]) for chain in self.objects(kind) if not boxes]
         own = self.own_name("own") if boxes and inner or arrays else target
         at = self.own_name("i") if not one and (boxes or arrays) else None
         made = self.new_object(f"{own}[{at}]", kind, number(1), False) if boxes else " ".join(
             self.new_object(f"{own}->{name}" if one else f"{own}[{at}].{name}", field.type.base(),
-                            number(field.type.cells()), self.boxes(field.made), " readonly") for name, field in arrays)
+                            number(field.type.cells()), self.boxes(field.address), " readonly") for name, field in arrays)
         if at:
             made = f"for (int {at} = 0; {at} < {self.text(length, 8)}; {at} = {at} + 1) {{ {made} }}"
         size = ("" if one else f"{self.text(length, 11)} * ") + f"sizeof({plain}{' *' * boxes})"
@@ -104,54 +99,52 @@ class Front(Places):
         return f"{{ {plain} private * {own} = malloc({size}); {made} {target} = SCAST({plain}{mode} *, {own}); }}"
 
     def objects(self, kind):
-        """The members of a struct in an object that are objects of their own: (path, field)."""
-        return [(path, field) for path, _, field in self.leaves(kind, (), True) if field.alone]
+        """The members of a struct in an object that are objects of their own."""
+        return [chain for chain in kind.struct.leaves(apart=True) if chain[-1].apart] if kind.struct else []
 
-    def struct_text(self, name):
+    def struct_text(self, struct):
         """A struct, with pointers to objects of their own for the arrays in it."""
         texts = []
-        for path, struct, field in self.leaves(Type("struct", name), (), True):
-            self.here, base, stars = field.place, field.type.base(), ""
-            if field.alone:
-                mode = field.type.mode or ("racy" if base.kind == "mutex" else "dynamic", None)
+        for chain in struct.leaves(apart=True):
+            member, stars = chain[-1], ""
+            self.here, base = member.place, member.type.base()
+            if member.apart:
+                mode = member.type.mode or ("racy" if base.kind == "mutex" else "dynamic", None)
                 base = base if base.mode or base.atomic else base.with_(mode=mode)
-                stars = " * readonly" * (1 + self.boxes(field.made))
-            shown = self.type_text(base, (struct, name, path[:-1]), False)
-            texts.append(f"{shown}{stars} {self.part_name(name, path)};")
-        return f"struct {self.part_name(name)} {{ {' '.join(texts)} }};"
+                stars = " * readonly" * (1 + self.boxes(member.address))
+            texts.append(f"{self.type_text(base, chain, False)}{stars} {self.part_name(*chain)};")
+        return f"struct {self.part_name(struct)} {{ {' '.join(texts)} }};"
 
-    def global_text(self, symbol, kind, path=(), context=None):
-        """A global: a variable for each member of a struct; or an array, after those that the arrays in it become."""
-        if kind.kind == "struct":
-            return " ".join(self.global_text(symbol, field.type, at, (struct, symbol, at[:-1]))
-                            for at, struct, field in self.leaves(kind) if (symbol, at) not in self.groups)
-        base, length, constant = kind.base(), kind.cells(), symbol.constants.get(path)
-        inner = [self.global_text(symbol, array(field.type, length), path + at) for at, field in self.objects(base)]
+    def global_text(self, chain, kind, context=()):
+        """A part of a global that is no struct: a variable, or an array after those that the arrays in it become;
+        `context`: the same where a mark may name a lock beside it."""
+        base, length, constant = kind.base(), kind.cells(), chain[0].constants.get(chain)
+        inner = [self.global_text((*chain, *at), array(at[-1].type, length)) for _, *at in self.objects(base)]
         shared = ("racy", None) if base.kind == "int" and base.const else None
         text = self.type_text(base.with_(mode=base.mode or kind.mode or shared), context, False)
         self.cells += length * (8 if base.kind == "struct" else 1)
         self.refuse_if(self.cells > 60000, "globals of over 60000 cells")
-        name = self.part_name(symbol, path) + (f"[{length}]" if kind.kind == "array" else "")
+        name = self.part_name(*chain) + (f"[{length}]" if kind.kind == "array" else "")
         return " ".join([*inner, f"{text} {name}{f' = {self.text(constant)}' if constant else ''};"])
 
     def program(self):
         functions = {symbol: self.function_lines(symbol) for symbol in self.functions.values()
                      if symbol.definition and not symbol.header}
         functions[self.functions["main"]][1:1] = self.initialisers()
-        globals_ = [symbol for symbol in self.globals if (symbol, ()) not in self.groups and
-                    (symbol.uses or not symbol.place[0].startswith(HEADERS))]
+        globals_ = [chain for symbol in self.globals if symbol.uses or not symbol.place[0].startswith(HEADERS)
+                    for chain in symbol.leaves() if not {chain[:1], chain} & self.groups.keys()]
         globals_ += dict.fromkeys(group for group, _ in self.groups.values())
-        globals_ = [self.written(symbol.place, self.global_text, symbol, symbol.type) for symbol in globals_]
-        globals_ += [self.written(self.here, self.record_lines, symbol) for symbol in self.thread_functions()]
+        globals_ = [self.written(chain[0].place, self.global_text, chain, chain[-1].type, chain) for chain in globals_]
+        globals_ += [self.written(self.here, self.record_lines, symbol) for symbol in self.records]
         last = [self.written(place, self.dispatcher, *each) for *each, place in self.calls_by.values()]
         for symbol, place in self.ends:
-            if symbol not in self.thread_functions() or symbol.called:
+            if symbol not in self.records or symbol.called:
                 self.report(Refusal((place, "pthread_exit outside a thread function")))
         if self.reads_strings:
             globals_.append((self.here, f"char racy {self.strings.out}[{sum(map(len, self.text_pool))}];"))
         structs = []
-        while rest := [key[0] for key in self.out_names if key[0] in self.structs and not key[1]][len(structs):]:
-            structs.append(self.written(self.structs[rest[0]].place, self.struct_text, rest[0]))  # may name others
+        while rest := [owner for owner, *path in self.out_names if owner.kind == "struct" and not path][len(structs):]:
+            structs.append(self.written(rest[0].place, self.struct_text, rest[0]))  # may name others
         arithmetic = {re.match(r"\w+ (\w+)", text)[1]: text for text in texts("arithmetic.sharc")}
         helpers = sorted(self.helpers)
         for name in helpers:  # which grows by those that these call
@@ -220,8 +213,8 @@ class Front(Places):
     def initialisers(self):
         """What main does before everything else."""
         for symbol in self.globals:
-            for path, lines in symbol.rest:
-                if path not in symbol.constants or {(symbol, ()), (symbol, path)} & self.groups.keys():
+            for chain, lines in symbol.rest:
+                if chain not in symbol.constants or {chain[:1], chain} & self.groups.keys():
                     yield from self.flat(lines)
                     self.notes.append((symbol.place, f"the initialiser of {symbol.name} is executed by main"))
         for at, byte in enumerate(b"".join(self.text_pool) if self.reads_strings else b""):
@@ -229,12 +222,12 @@ class Front(Places):
 
     def set_initialiser(self, symbol, values):
         """The constants that parts of a global are declared with; main assigns the rest."""
-        for path, item in values:
-            lines, _ = self.captured(self.store, self.part(symbol, path), item)
+        for place, item in values:
+            lines, chain = self.captured(self.store, place, item)[0], place.chain()
             value = lines[0].parts[-1] if len(lines) == 1 and lines[0].text == "%s = %s;" else NOTHING
-            if value.op == "number" and value.number > -(1 << 63) and not any(isinstance(step, int) for step in path):
-                symbol.constants.update({path: value} if value.number else {})
-            symbol.rest += [(path, lines)] if value is NOTHING or not value.null() else []
+            if value.op == "number" and value.number > -(1 << 63) and chain:
+                symbol.constants.update({chain: value} if value.number else {})
+            symbol.rest += [(chain, lines)] if value is NOTHING or not value.null() else []
 
     def dispatcher(self, name, kind, root):
         """A function that calls one of several by its number."""

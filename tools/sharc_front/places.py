@@ -1,25 +1,24 @@
 """Names, places, values and types as text, when it is known how the pointers of each class are represented."""
 
 import re
+from functools import reduce
 
 from .classes import HEAP
 from .ctype import CELL
-from .declare import Symbol
 from .names import packed
 from .threads import Threads
-from .tree import LEVELS, Expr, number, plus, times, variable
+from .tree import LEVELS, number, plus, times, variable
 
 # the words that the language has and C has not
 RESERVED = set("private readonly locked racy dynamic SCAST mutex spawn join lock unlock print cond wait signal "
                "broadcast malloc free main NULL".split())
 
 class Spot:
-    """Where a place is in the text: a variable, of which `path` are the members; or an element with an `index`, and of
-    that the members `inner`: of the array in the variable, or of the object that a `pointer` points to; `boxes` if that
-    holds pointers to its elements. `top` is the struct that `inner` begins in."""
-    def __init__(self, symbol=None, index=None, pointer=None, boxes=False):
-        self.symbol, self.index, self.pointer, self.boxes = symbol, index, pointer, boxes
-        self.path, self.inner, self.top = (), (), None
+    """Where a place is in the text: a variable or a member of it, by its `chain`, or the object that a `pointer` points
+    to; of that the element `index`, if it has some, and of this the member `inner`, a chain that begins with its struct;
+    `boxes` if the object holds pointers to its elements."""
+    def __init__(self, chain=(), index=None, pointer=None, boxes=False):
+        self.chain, self.index, self.pointer, self.boxes, self.inner = chain, index, pointer, boxes, ()
 
 class Places(Threads):
     def how(self, node):
@@ -28,19 +27,20 @@ class Places(Threads):
     def boxes(self, node):
         return self.how(node) == "boxes"
 
-    def part_name(self, owner, path=()):
+    def part_name(self, owner, *path):
         """The name in the text, none of SharC's words: for a variable or struct, or for a part of it."""
-        if (owner, path) not in self.out_names:
-            words, told = (owner.out, *path) if isinstance(owner, Symbol) else path or (owner,), path
-            if isinstance(owner, Symbol):
-                told = () if owner.own else (owner.name, *path)
-                self.refuse_if(owner.kind == "function" and owner.definition is None,
-                               f"function {owner.name}, which is not defined here", owner.place)
-            name, reserved = "_".join(words), "_".join(words) in RESERVED
-            name = self.fresh(name + "_" * reserved) if len(words) > 1 or reserved else name
-            self.out_names[owner, path] = name
+        if (owner, *path) not in self.out_names:
+            names = [member.name for member in path]
+            words, told = [owner.out, *names], [] if owner.own else [owner.name, *names]
+            if owner.kind == "struct":
+                words, told = names or words, names
+            self.refuse_if(owner.kind == "function" and owner.definition is None,
+                           f"function {owner.name}, which is not defined here", owner.place)
+            name = "_".join(words)
+            name = self.fresh(name + "_" * (name in RESERVED)) if len(words) > 1 or name in RESERVED else name
+            self.out_names[owner, *path] = name
             self.user.words.update({name: ".".join(told)} if told and name != ".".join(told) else {})
-        return self.out_names[owner, path]
+        return self.out_names[owner, *path]
 
     def called_name(self, callee, value=None):
         """What is called: a function of the program, or the one that calls one of several."""
@@ -52,40 +52,32 @@ class Places(Threads):
 
     def spot(self, place):
         base, *rest = place.args
-        if place.op == "at":
-            return self.pointed(base, rest[0], base.type.to)
-        if place.op == "variable":
-            is_global, (base, at) = base.kind == "global", self.groups.get((base, ()), (base, number(0)))
-            self.refuse_if(is_global and base not in self.globals and not base.own,
-                           f"variable {base.name}, which is not defined here")
-            is_array = base.type.kind == "array"
-            if is_global or not is_array and not base.boxed:
-                return Spot(base, at if is_array else None)
-            return Spot(base, number(0), self.part_name(base), is_array and self.boxes(base.address))
-        spot = self.spot(base)
-        if place.op == "member":
-            return self.entered(spot, base.type.base().name, rest[0])
-        spot.index = plus(spot.index, times(rest[0], place.type.cells()))
-        return spot
+        match place.op:
+            case "variable":
+                return self.entered(Spot(), base)
+            case "member":
+                return self.entered(self.spot(base), *rest)
+            case "element":
+                spot = self.spot(base)
+                spot.index = plus(spot.index, times(rest[0], place.type.cells()))
+                return spot
+        return self.pointed(base, rest[0], base.type.to)
 
-    def entered(self, spot, struct, name):
-        """Where a member of the struct at a spot is."""
-        field = self.structs[struct].fields[name]
-        is_array, in_global = field.type.kind == "array", spot.symbol and spot.symbol.kind == "global"
-        apart = is_array or field.alone and (spot.pointer or in_global)
+    def entered(self, spot, symbol):
+        """Where a member of the struct at a spot is; a variable is entered from nowhere."""
+        is_array, apart = symbol.type.kind == "array", symbol.apart
         if spot.index is None:
-            spot.path, spot.index = spot.path + (name,), number(0) if is_array and in_global else None
-            if in_global:
-                key = (spot.symbol, spot.path)
-                return Spot(*self.groups[key]) if key in self.groups else spot
+            spot.chain = (*spot.chain, symbol)
+            variable, apart = spot.chain[0], spot.chain[0].apart or is_array
+            if variable.kind == "global":
+                self.refuse_if(variable not in self.globals and not variable.own,
+                               f"variable {variable.name}, which is not defined here")
+                return Spot(*self.groups.get(spot.chain) or (spot.chain, number(0) if is_array else None))
         else:
-            spot.top, spot.inner = spot.top or struct, spot.inner + (name,)
-        if apart and in_global:  # those of all elements are one after the other
-            spot.path, spot.inner, spot.top = spot.path + spot.inner, (), None
-            spot.index = times(spot.index, field.type.cells())
-        elif apart:
-            return Spot(spot.symbol, number(0), self.spot_text(spot), self.boxes(field.made))
-        return spot
+            spot.inner = (*(spot.inner or [symbol.struct]), symbol)
+            if apart and not spot.pointer:  # those of all elements are one after the other
+                return Spot((*spot.chain, *spot.inner[1:]), times(spot.index, symbol.type.cells()))
+        return Spot((), number(0), self.spot_text(spot), self.boxes(symbol.address)) if apart else spot
 
     def pointed(self, pointer, index, kind):
         """Where the element `index` of what a pointer points to is."""
@@ -93,17 +85,17 @@ class Places(Threads):
         how = self.how(node)
         if how in HEAP:
             node.pointee_type(self.here)
-            return Spot(None, times(index, kind.cells()), self.text(pointer), self.boxes(node))
+            return Spot((), times(index, kind.cells()), self.text(pointer), self.boxes(node))
         self.refuse_if(how != "global", "use of a pointer that is always NULL or a number")
-        symbol, path = next(iter(node.find().globals))
-        self.reads_strings |= symbol is self.strings
-        kinds = [self.part(symbol, path[:at]).type for at in range(len(path) + 1)]
-        spot, moves = self.spot(self.part(symbol, path)), node.has("order")
-        arrays = [at for at, part in enumerate(kinds) if part.kind == "array"]
+        chain = next(iter(node.find().globals))
+        self.reads_strings |= chain[0] is self.strings
+        kinds, moves = [symbol.type for symbol in chain], node.has("order")
         self.refuse_if(kinds[-1].base() != kind.base(), f"pointer to {kinds[-1].shown()} used for {kind.shown()}")
-        single = arrays[-1] < len(path) and moves if arrays else not index.null() or moves and not pointer.place()
+        in_array = any(part.kind == "array" for part in kinds)
+        single = kinds[-1].kind != "array" and moves if in_array else not index.null() or moves and not pointer.place()
         self.refuse_if(single, "arithmetic on a pointer to a single object or a member")
-        if arrays:
+        spot = reduce(self.entered, chain, Spot())
+        if in_array:
             spot.index = plus(plus(self.as_number(pointer), times(index, kind.cells())), number(-1))
         return spot
 
@@ -113,16 +105,15 @@ class Places(Threads):
         return plus(self.spot(place).index or number(0), number(1)) if place else pointer
 
     def spot_text(self, spot):
-        name = spot.pointer or self.part_name(spot.symbol, spot.path)
-        if spot.index is None:
+        name, index = spot.pointer or self.part_name(*spot.chain), spot.index
+        if index is None:
             return name
         if spot.boxes:
-            name = f"{name}[{self.text(spot.index)}]"
-        index = "0" if spot.boxes else self.text(spot.index)
+            name, index = f"{name}[{self.text(index)}]", number(0)
         if spot.inner:
-            alone = spot.boxes or spot.pointer and spot.index.null()
-            return name + ("->" if alone else f"[{index}].") + self.part_name(spot.top, spot.inner)
-        return f"{name}[{index}]"
+            first = spot.pointer and index.null()
+            return name + ("->" if first else f"[{self.text(index)}].") + self.part_name(*spot.inner)
+        return f"{name}[{self.text(index)}]"
 
     def text(self, value, level=0):
         """A value, in parentheses where it binds less than `level`."""
@@ -172,18 +163,18 @@ class Places(Threads):
     def lock_path(self, path, scopes, context):
         """A lock path of a mark. `context`: the struct around it, and of what it is a part."""
         head, *steps = re.split(r"->|\.", path)
-        if context and not steps and head in self.structs[context[0]].fields:
-            return self.part_name(context[1], context[2] + (head,))
+        beside = context[-1].struct.fields if context[1:] and not steps else {}
+        if head in beside:
+            return self.part_name(*context[:-1], beside[head])
         symbol = scopes.get(head)
         self.refuse_if(not hasattr(symbol, "address"), f"lock {path}, which is not known")
         symbol.uses += 1
-        place = variable(symbol)
-        place = Expr("at", (place, number(0)), symbol.type.to) if symbol.type.kind == "ptr" else place
-        spot = self.spot(self.inner_place(place, steps))
+        place = self.at(variable(symbol), number(0)) if symbol.type.kind == "ptr" else variable(symbol)
+        spot = self.spot(reduce(self.member, steps, place))
         self.refuse_if(spot.index is not None and not spot.pointer, f"lock {path}, which is an element of an array")
         return self.spot_text(spot)
 
-    def type_text(self, kind, context=None, local=True):
+    def type_text(self, kind, context=(), local=True):
         mode, scopes = kind.mode or ("", None)
         if mode.startswith("locked("):
             mode = f"locked({self.lock_path(mode[7:-1], scopes, context)})"
@@ -195,8 +186,8 @@ class Places(Threads):
         if kind.kind == "cond":
             return "struct cond" + mode
         if kind.kind == "struct":
-            self.refuse_if(not self.structs[kind.name].fields, f"struct {kind.name}, which is not defined")
-            return "struct " + self.part_name(kind.name) + mode
+            self.refuse_if(not kind.struct.fields, f"struct {kind.name}, which is not defined")
+            return "struct " + self.part_name(kind.struct) + mode
         how = self.how(kind.node)
         if how not in HEAP:
             return ("long" if how == "integer" else "int") + mode

@@ -76,7 +76,7 @@ class Statements(Expressions):
         if node.name is None or isinstance(node.type, A.FuncDecl):
             return self.prototype(node) if node.name else self.type(node.type)
         symbol, init = self.variable(node, "local" if self.function else "global"), uncast(node.init)
-        values = self.scalars(symbol.type, [node.init]) if init is not None else ()
+        values = self.scalars(variable(symbol), [node.init]) if init is not None else ()
         if symbol.kind == "global":
             return self.set_initialiser(symbol, values)
         self.declare_local(symbol, values)
@@ -95,8 +95,8 @@ class Statements(Expressions):
             symbol.name = self.bound
         if symbol.kind == "local":
             self.later(lambda: self.declaration(symbol), declares=True)
-        for path, item in values:
-            self.blocked(self.store, self.part(symbol, path), item)
+        for place, item in values:
+            self.blocked(self.store, place, item)
 
     def loop(self, cond, step, body, around=None, ends=False):
         """`step` is at the end of the body, and before each continue: self.loops has it for each loop around, and the

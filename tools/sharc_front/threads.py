@@ -14,9 +14,6 @@ from .tree import Expr, number
 RECORD, START, RESULT = (Template(" ".join(text.split())) for text in texts("threads.sharc"))
 
 class Threads(Library):
-    def thread_functions(self):
-        return list(dict.fromkeys(symbol for node in self.started for symbol in node.find().functions))
-
     def l_pthread_create(self, args):
         self.blocked(self.created, *args)
 
@@ -25,9 +22,8 @@ class Threads(Library):
         place, start = self.stable_place(self.deref(self.value(target))), self.stable(self.value(start))
         self.started.append(start.type.node)
         value = self.value(arg)
-        local = value.place() and value.place().local()
-        if local:
-            local.started.append(len(self.loops))
+        if value.place() and value.place().chain():
+            value.place().chain()[0].started.append(len(self.loops))
         value = self.given(self.fitting(value, start.type.to.params[0]), True)
 
         def lines():
@@ -61,10 +57,10 @@ class Threads(Library):
     def handed(self, value):
         """Whether the argument of a thread is the address of an object of this thread alone."""
         place = value.place()
-        whole = place.args[0] if place is not None and place.op == "element" else place
-        if whole is None or whole.op != "variable" or not whole.local() or place.type.kind == "array":
+        whole = place.args[0] if place and place.op == "element" else place
+        if not place or place.type.kind == "array" or whole.op != "variable" or whole.args[0].kind == "global":
             return False
-        local = whole.local()
+        [local] = whole.args
         alone = self.boxes(local.address) if whole is not place else local.started == [local.loop]
         return alone and self.how(value.type.node) in HEAP
 
@@ -87,7 +83,7 @@ class Threads(Library):
         self.later(lambda: " ".join(
             RESULT.substitute(self.records[symbol], thread=self.text(thread), target=self.text(place),
                               none=self.null_text(place.type.node))
-            for symbol in self.thread_functions() if symbol.gives), place)
+            for symbol in self.records if symbol.gives), place)
 
     def l_pthread_exit(self, args):
         """In main its end, else that of the thread function."""

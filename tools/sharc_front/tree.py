@@ -63,16 +63,18 @@ class Expr:
         """What it is the address of, or the array that it is the first element of."""
         return self.args[0] if self.op == "address" else None
 
-    def local(self):
-        """The local variable that a place is the whole of or a member of."""
-        if self.op == "member":
-            return self.args[0].local()
-        return self.args[0] if self.op == "variable" and self.args[0].kind != "global" else None
+    def chain(self):
+        """The variable that a place is the whole of or a member of, with the members to it, else nothing."""
+        around = self.args[0].chain() if self.op == "member" else ()
+        return (*around, self.args[-1]) if around or self.op == "variable" else ()
 
 NOTHING = Expr("number", (), VOID, 0)
 
 def variable(symbol):
     return Expr("variable", (symbol,), symbol.type)
+
+def member(base, symbol):
+    return Expr("member", (base, symbol), symbol.type)
 
 def element(base, index):
     return Expr("element", (base, index), base.type.to)
