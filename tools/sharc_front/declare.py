@@ -215,7 +215,7 @@ class Declarations:
                 name, *more = item.name
                 at = steps.index(self.constant(name) if is_array else name.name)
                 items[0] = A.NamedInitializer(more, item.expr) if more else item.expr
-            part = element(place, number(steps[at])) if is_array else self.member(place, steps[at])
+            part = element(place, number(steps[at])) if is_array else self.member_named(place, steps[at])
             yield from self.parts(part, [items.pop(0)], True) if more else self.scalars(part, items)
             at += 1
 

@@ -86,7 +86,7 @@ class Expressions(Declarations):
             base = self.stable(base)
         return place.with_(args=(base, *(self.stable(arg) if isinstance(arg, Expr) else arg for arg in inner)))
 
-    def member(self, base, name):
+    def member_named(self, base, name):
         members = base.type.struct.fields
         made = member(base, members.get(name) or members[""])  # where one without a name is refused
         self.refuse_if(made.type.kind == "bad", None)
@@ -231,7 +231,7 @@ class Expressions(Declarations):
 
     def x_StructRef(self, node, _):
         base = self.deref(self.value(node.name)) if node.type == "->" else self.visit(node.name)
-        return self.member(base, node.field.name)
+        return self.member_named(base, node.field.name)
 
     def x_ArrayRef(self, node, _):
         return self.deref(self.operated("+", *self.values([node.name, node.subscript])))
@@ -288,7 +288,10 @@ class Expressions(Declarations):
             name = promoted(left.type) if op in ("<<", ">>") else usual(left.type, right.type)
             return binary(op, left, right, name)
         if op in COMPARED:
-            return self.compared(op, left, right)
+            pointer = right if left.null() else left
+            kind = Type("ptr", to=pointer.type.to, node=self.class_of(pointer))
+            sides = [self.fitting(side, kind) for side in (left, right)]
+            return joined(op, "int", *(sides if op in ("==", "!=") else map(self.ordered, sides)))
         if kinds == ("ptr", "ptr") and op == "-":
             self.class_of(left).unite(self.class_of(right))
             cells, made = left.type.to.cells(), joined("-", "long", self.ordered(left), self.ordered(right))
@@ -300,14 +303,7 @@ class Expressions(Declarations):
 
     def ordered(self, value):
         self.class_of(value).mark("order")
-        return Expr("ordered", (value,), Type("int", "long"), wide=True)
-
-    def compared(self, op, left, right):
-        """The same for pointers, of which one may be NULL."""
-        pointer = right if left.null() else left
-        kind = Type("ptr", to=pointer.type.to, node=self.class_of(pointer))
-        sides = [self.fitting(side, kind) for side in (left, right)]
-        return joined(op, "int", *(sides if op in ("==", "!=") else map(self.ordered, sides)))
+        return Expr("ordered", (value,), LONG, wide=True)
 
     def x_TernaryOp(self, node, wanted, target=None):
         """cond ? a : b, in a variable, or put into the place `target`."""

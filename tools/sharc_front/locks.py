@@ -95,7 +95,6 @@ class Locksets:
             written = [access for access in accesses.values() if access.written]
             if threads and written and not any(access.thread for access in written):
                 yield f"{name}: written by main alone ({in_lines(written)}), read by threads"
-                continue
             counts = Counter(lock for access in threads for lock in access.locks)
             best = max(counts, key=lambda lock: (counts[lock], lock), default=None)
             few = best is None or counts[best] < 0.6 * len(threads) and not 1 <= counts[best] == len(threads) - 1

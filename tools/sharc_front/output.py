@@ -88,8 +88,8 @@ class Front(Places):
         own = self.own_name("own") if boxes and inner or arrays else target
         at = self.own_name("i") if not one and (boxes or arrays) else None
         made = self.new_object(f"{own}[{at}]", kind, number(1), False) if boxes else " ".join(
-            self.new_object(f"{own}->{name}" if one else f"{own}[{at}].{name}", field.type.base(),
-                            number(field.type.cells()), self.boxes(field.address), " readonly") for name, field in arrays)
+            self.new_object(f"{own}->{name}" if one else f"{own}[{at}].{name}", part.type.base(),
+                            number(part.type.cells()), self.boxes(part.address), " readonly") for name, part in arrays)
         if at:
             made = f"for (int {at} = 0; {at} < {self.text(length, 8)}; {at} = {at} + 1) {{ {made} }}"
         size = ("" if one else f"{self.text(length, 11)} * ") + f"sizeof({plain}{' *' * boxes})"
@@ -185,7 +185,7 @@ class Front(Places):
         """A line with its parts as text."""
         texts = [self.text(part) if isinstance(part, Expr) else part if isinstance(part, str) else self.type_text(part)
                  for part in line.parts]
-        return line.text % tuple(texts) if texts else line.text
+        return line.text % tuple(texts)
 
     def flat(self, lines):
         """Lines as text, with their blocks in brackets."""

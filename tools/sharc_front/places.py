@@ -15,8 +15,8 @@ RESERVED = set("private readonly locked racy dynamic SCAST mutex spawn join lock
 
 class Spot:
     """Where a place is in the text: a variable or a member of it, by its `chain`, or the object that a `pointer` points
-    to; of that the element `index`, if it has some, and of this the member `inner`, a chain that begins with its struct;
-    `boxes` if the object holds pointers to its elements."""
+    to; of that the element `index`, if it has some; and of this the member `inner`, a chain that starts with its
+    struct. `boxes`: the object holds pointers to its elements."""
     def __init__(self, chain=(), index=None, pointer=None, boxes=False):
         self.chain, self.index, self.pointer, self.boxes, self.inner = chain, index, pointer, boxes, ()
 
@@ -170,7 +170,7 @@ class Places(Threads):
         self.refuse_if(not hasattr(symbol, "address"), f"lock {path}, which is not known")
         symbol.uses += 1
         place = self.at(variable(symbol), number(0)) if symbol.type.kind == "ptr" else variable(symbol)
-        spot = self.spot(reduce(self.member, steps, place))
+        spot = self.spot(reduce(self.member_named, steps, place))
         self.refuse_if(spot.index is not None and not spot.pointer, f"lock {path}, which is an element of an array")
         return self.spot_text(spot)
 

@@ -116,10 +116,9 @@ class Statements(Expressions):
         if isinstance(inner, Symbol):
             inner.uses += 1
             self.emit(f"{inner.out} = 1;")
-            self.emit("break;")
-        else:
-            self.lines += inner
-            self.emit("continue;")
+            return self.emit("break;")
+        self.lines += inner
+        self.emit("continue;")
 
     def s_Switch(self, node):
         """The cases in order, from the number of the one that is chosen on, in a loop that takes the breaks."""
