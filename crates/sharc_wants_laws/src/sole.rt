@@ -22,7 +22,7 @@ use sharc_code::run_laws;
 use sharc_compile::{paths_law, run_paths_law};
 use sharc_compile_laws::flattened::typed_counts;
 use sharc_compile_laws::{
-    functions_are_named, spawned_are_threads, threads_may_start, typed_threads_tell,
+    functions_are_named, own_are_told, spawned_are_threads, threads_may_start, typed_threads_tell,
 };
 use sharc_ctype_laws::laws::each_names_itself;
 use sharc_flat::form_laws::path_laws;
@@ -56,6 +56,7 @@ pub fn thread_holds()
 {
     path_holds();
     run_paths_law();
+    own_are_told();
 }
 
 /// So what the registers of a thread refer to is among the references of its history, where no reference to it is in
@@ -83,6 +84,7 @@ pub fn held_registered()
     each_names_itself();
     paths_law();
     run_paths_law();
+    own_are_told();
     framed_law();
     path_laws();
 }
@@ -162,6 +164,7 @@ pub fn silent_have_nothing()
 {
     path_holds();
     run_paths_law();
+    own_are_told();
     typed_is_framed();
     framed_law();
 }
