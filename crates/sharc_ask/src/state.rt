@@ -27,6 +27,9 @@ pub enum RunEnd {
     Spent,
 }
 
+/// What a step of a run gives, or why the run is over.
+pub type Ran<T> = Result<T, RunEnd>;
+
 /// The variables that exist in a call, and the pointers that its temporaries hold.
 #[derive(Drop)]
 pub struct Frame {
@@ -57,7 +60,7 @@ pub fn is_reference(kind: ExpressionKind<'_>) -> bool
 }
 
 /// The run stops unless the test is met.
-pub fn unless(well: bool, trap: Trap, site: Site, st: &State) -> Result<(), RunEnd>
+pub fn unless(well: bool, trap: Trap, site: Site, st: &State) -> Ran<()>
     ensures { Does (view_state st.now) result (view_state st.now) (unless_stop well trap site) }
 {
     if well {
@@ -68,7 +71,7 @@ pub fn unless(well: bool, trap: Trap, site: Site, st: &State) -> Result<(), RunE
 }
 
 /// One more statement or expression is entered.
-pub fn enter(st: &mut State) -> Result<(), RunEnd>
+pub fn enter(st: &mut State) -> Ran<()>
     ensures does { Does (view_state st.old) result (view_state st.new) enters }
     ensures fuel { IfOk result (λ _. st.new.fuel < st.old.fuel) }
 {
@@ -80,7 +83,7 @@ pub fn enter(st: &mut State) -> Result<(), RunEnd>
 }
 
 /// A temporary holds this reference.
-pub fn hold_reference(value: i64, st: &mut State) -> Result<(), RunEnd>
+pub fn hold_reference(value: i64, st: &mut State) -> Ran<()>
     ensures does { Does (view_state st.old) result (view_state st.new) (holds_reference value) }
     ensures fuel { st.new.fuel ≤ st.old.fuel }
 {
@@ -91,7 +94,7 @@ pub fn hold_reference(value: i64, st: &mut State) -> Result<(), RunEnd>
 }
 
 /// A temporary holds a value of this type, if it is a pointer.
-pub fn hold(kind: ExpressionKind<'_>, value: i64, st: &mut State) -> Result<(), RunEnd>
+pub fn hold(kind: ExpressionKind<'_>, value: i64, st: &mut State) -> Ran<()>
     ensures does { Does (view_state st.old) result (view_state st.new) (holds (view_kind kind.entry) value) }
     ensures fuel { st.new.fuel ≤ st.old.fuel }
 {
@@ -103,7 +106,7 @@ pub fn hold(kind: ExpressionKind<'_>, value: i64, st: &mut State) -> Result<(), 
 }
 
 /// A variable exists from here on.
-pub fn begin(declaration: &Declaration, value: i64, st: &mut State) -> Result<(), RunEnd>
+pub fn begin(declaration: &Declaration, value: i64, st: &mut State) -> Ran<()>
     ensures does { Does (view_state st.old) result (view_state st.new) (begins_with declaration.now value) }
     ensures fuel { st.new.fuel ≤ st.old.fuel }
 {
@@ -154,7 +157,7 @@ fn place_of(variables: &[Variable], token: u32) -> usize
 }
 
 /// Gives a variable this value.
-pub fn set(token: u32, value: i64, st: &mut State) -> Result<(), RunEnd>
+pub fn set(token: u32, value: i64, st: &mut State) -> Ran<()>
     ensures does { Does (view_state st.old) result (view_state st.new) (sets token value) }
     ensures fuel { st.new.fuel ≤ st.old.fuel }
 {
@@ -171,7 +174,7 @@ pub fn set(token: u32, value: i64, st: &mut State) -> Result<(), RunEnd>
 }
 
 /// The reference of the last temporary has gone elsewhere.
-pub fn move_on(st: &mut State) -> Result<(), RunEnd>
+pub fn move_on(st: &mut State) -> Ran<()>
     ensures does { Does (view_state st.old) result (view_state st.new) (moves_on 1) }
     ensures fuel { st.new.fuel ≤ st.old.fuel }
 {
@@ -181,7 +184,7 @@ pub fn move_on(st: &mut State) -> Result<(), RunEnd>
 }
 
 /// Likewise, where it is a value of this type.
-pub fn moves(kind: ExpressionKind<'_>, st: &mut State) -> Result<(), RunEnd>
+pub fn moves(kind: ExpressionKind<'_>, st: &mut State) -> Ran<()>
     ensures does { Does (view_state st.old) result (view_state st.new) (moves (view_kind kind.entry)) }
     ensures fuel { st.new.fuel ≤ st.old.fuel }
 {
@@ -193,7 +196,7 @@ pub fn moves(kind: ExpressionKind<'_>, st: &mut State) -> Result<(), RunEnd>
 }
 
 /// References are given up.
-pub fn give_up(given: GivenUp, st: &mut State) -> Result<(), RunEnd>
+pub fn give_up(given: GivenUp, st: &mut State) -> Ran<()>
     ensures does { Does (view_state st.old) result (view_state st.new) (gives_up (given ∷ [])) }
     ensures fuel { st.new.fuel ≤ st.old.fuel }
 {
@@ -204,7 +207,7 @@ pub fn give_up(given: GivenUp, st: &mut State) -> Result<(), RunEnd>
 }
 
 /// This reference is given up.
-pub fn release(reference: i64, st: &mut State) -> Result<(), RunEnd>
+pub fn release(reference: i64, st: &mut State) -> Ran<()>
     ensures does { Does (view_state st.old) result (view_state st.new) (gives_up (all_released (reference ∷ []))) }
     ensures fuel { st.new.fuel ≤ st.old.fuel }
 {
@@ -212,7 +215,7 @@ pub fn release(reference: i64, st: &mut State) -> Result<(), RunEnd>
 }
 
 /// A value of this type is used no more.
-pub fn dropped(kind: ExpressionKind<'_>, value: i64, st: &mut State) -> Result<(), RunEnd>
+pub fn dropped(kind: ExpressionKind<'_>, value: i64, st: &mut State) -> Ran<()>
     ensures does { Does (view_state st.old) result (view_state st.new) (drops (view_kind kind.entry) value) }
     ensures fuel { st.new.fuel ≤ st.old.fuel }
 {
@@ -260,7 +263,7 @@ fn answer_of(variables: &[Variable], act: Act, told: i64) -> i64
 }
 
 /// Puts those of the cells that are not this one at the end of a list.
-fn keep_others(cells: &[CellAt], cell: CellAt, kept: &mut Vec<CellAt>) -> Result<(), RunEnd>
+fn keep_others(cells: &[CellAt], cell: CellAt, kept: &mut Vec<CellAt>) -> Ran<()>
     ensures { OnOk result (kept.new.items ≡ kept.old.items ++ filter (λ d. not (same_cell d cell)) cells.now) }
 {
     match cells {
@@ -278,7 +281,7 @@ fn keep_others(cells: &[CellAt], cell: CellAt, kept: &mut Vec<CellAt>) -> Result
 }
 
 /// The mutexes that are held after one more event.
-fn note_held(alloc: Global, act: Act, held: &mut Vec<CellAt>) -> Result<(), RunEnd>
+fn note_held(alloc: Global, act: Act, held: &mut Vec<CellAt>) -> Ran<()>
     ensures { OnOk result (held.new.items ≡ held_after act held.old.items) }
 {
     match act {
@@ -305,7 +308,7 @@ fn next_answer(answers: &[i64]) -> i64
 }
 
 /// An event, with the next answer of the list.
-pub fn ask_event(site: Site, act: Act, st: &mut State) -> Result<i64, RunEnd>
+pub fn ask_event(site: Site, act: Act, st: &mut State) -> Ran<i64>
     ensures does { Does (view_state st.old) result (view_state st.new) (answered site act) }
     ensures fuel { st.new.fuel ≤ st.old.fuel }
 {
@@ -339,7 +342,7 @@ pub fn ask_event(site: Site, act: Act, st: &mut State) -> Result<i64, RunEnd>
 }
 
 /// An event that answers nothing.
-pub fn perform(site: Site, act: Act, st: &mut State) -> Result<(), RunEnd>
+pub fn perform(site: Site, act: Act, st: &mut State) -> Ran<()>
     ensures does { Does (view_state st.old) result (view_state st.new) (performs site act) }
     ensures fuel { st.new.fuel ≤ st.old.fuel }
 {

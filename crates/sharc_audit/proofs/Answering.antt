@@ -1,5 +1,5 @@
 -- What is computed of a line is what its thread asks for.
-use Rattle.sharc_audit.proofs.{Imports.{◌≡◌, ◌⊎◌, inl, inr, ℕ, true, false, List, [], ◌∷◌, ◌++◌, length, map, Option, Some, None, refl, ap, sym, subst, ◌∙◌, append-nil, ℤ, pos, if◌then◌else◌, Act, Cell, Local, SourceEvent, Function, Resolution, function_at, Assignment, events_of, AskLaws, IsAnswer, Starts, IsNext, AskedFor, Asked, asks, by, answers_of, IsNamedAt, Follows, SourceRunWith, LegalStore, EventLine, LineAct, Wants, Spent, Nothing, IsSpent, entry, has_begun, start_at, start_of, is_spent, next_in, next_of, own_answers, next_told, next_asked, spawned_by, written, IsLine, told_by, told, OneMain, map_length, map_both}, Telling.{NextBy, comes, lacks, nothing, next_by, at_mapped}, Entries.{entry_by_right, right_by_entry, events_begun, own_told, follows_begun, follows_entry}}
+use Rattle.sharc_audit.proofs.{Imports.{◌≡◌, ◌⊎◌, inl, inr, ℕ, true, false, List, [], ◌∷◌, ◌++◌, length, map, Option, Some, None, refl, ap, sym, subst, ◌∙◌, append-nil, ℤ, pos, if◌then◌else◌, Act, Cell, Local, SourceEvent, Function, Resolution, function_at, Assignment, events_of, AskLaws, IsAnswer, Starts, IsNext, AskedFor, Asked, asks, by, answers_of, IsNamedAt, Follows, SourceRunWith, LegalStore, EventLine, LineAct, Wants, Spent, Nothing, IsSpent, entry, has_begun, start_at, start_of, is_spent, next_in, next_of, own_answers, next_told, next_asked, spawned_by, written, IsLine, told_by, told, FindsEntries, map_length, map_both}, Telling.{NextBy, comes, lacks, nothing, next_by, at_mapped}, Entries.{events_begun, own_told, follows_begun, follows_entry}}
 
 -- ---- what a line reports is what its event answers
 
@@ -28,7 +28,7 @@ told_is r l e x h i = by_act r e.act x e.answer l.act h.act i
 
 -- ---- what is computed
 
-module _ (laws : AskLaws) (m : Assignment) (one_main : OneMain m.typed) (fuel : ℕ) (R : List SourceEvent) (legal : LegalStore m.typed R) (t : ℕ) (one : ℤ) where
+module _ (laws : AskLaws) (m : Assignment) (one_main : FindsEntries m.typed) (fuel : ℕ) (R : List SourceEvent) (legal : LegalStore m.typed R) (t : ℕ) (one : ℤ) where
   abbrev own : (a : Follows m R fuel t) → List ℤ
   own a = answers_of (events_of t a.after)
 
@@ -94,7 +94,7 @@ module _ (laws : AskLaws) (m : Assignment) (one_main : OneMain m.typed) (fuel : 
               act = refl;
               answer = refl;
               site = subst (λ z. IsNamedAt z d.name.site) (sym j) refl;
-              by_right = right_by_entry m.typed one_main R legal t f v i;
+              by_right = one_main.right R t f v i;
             }),
           )
 
@@ -123,11 +123,11 @@ module _ (laws : AskLaws) (m : Assignment) (one_main : OneMain m.typed) (fuel : 
       by_thread (inl none) = (starts_by e none (entry m.typed R t) refl (sym (next_start (events_begun R t none)) ∙ h)).1
       by_thread (inr a) = by_next a (next_by_told a)
 
-module _ (laws : AskLaws) (m : Assignment) (one_main : OneMain m.typed) (fuel : ℕ) (R : List SourceEvent) (legal : LegalStore m.typed R) where
+module _ (laws : AskLaws) (m : Assignment) (one_main : FindsEntries m.typed) (fuel : ℕ) (R : List SourceEvent) (legal : LegalStore m.typed R) where
   first_asked : (e : SourceEvent) (one : ℤ) → Starts m R e → next_told m fuel R e.thread one ≡ Wants e
   first_asked e one s =
       next_start laws m one_main fuel R legal e.thread one (events_begun R e.thread s.first)
-      ∙ ap (start_of m.typed e.thread) (entry_by_right m.typed one_main R legal e.thread s.function s.argument R [] (sym (append-nil R)) s.by_right)
+      ∙ ap (start_of m.typed e.thread) (one_main.found R legal e.thread s.function s.argument R [] (sym (append-nil R)) s.by_right)
       ∙ by_function (function_at m.typed s.function) s.site
     where
       by_function : (o : Option Function) → IsNamedAt o e.site → start_at e.thread s.argument o ≡ Wants e

@@ -1,5 +1,5 @@
 -- Verdicts.
-use Rattle.sharc_audit.proofs.{Imports.{◌≡◌, ◌⊎◌, inl, inr, ℕ, zero, suc, ◌-◌, ◌<◌, ◌≤◌, ◌==◌, cond, true, false, List, [], ◌∷◌, ◌++◌, length, length-drop, take, drop, Option, Some, None, refl, ap, sym, subst, ◌∙◌, arith, append_assoc, cases_order, slice_get, slice_index_or, SourceEvent, Resolution, Assignment, AskLaws, StoreLaws, RunLaws, AskedFor, Obeys, until_return, SourceRunWith, MayCome, LegalStore, Rule, Live, OneMode, Owner, NotWritten, UnderItsLock, ReadSharedOrOneThread, Holds, number, RuleLaws, Return, IsLowestAt, EventFault, Verdict, EventLine, NextEvent, Wants, Spent, Nothing, IsSpent, Accepted, IsFirstRefused, IsAsked, IsNotLegal, IsAgainst, FailsBy, Refused, Audits, IsFault, next_asked, IsLine, AreLines, told, OneMain, AreKnown}, Answering.{told_asked, asked_is, computed_asked, spent_is, is_spent_at}, Breaking.{obeys_more, lowest_broken_last, broken_is}}
+use Rattle.sharc_audit.proofs.{Imports.{◌≡◌, ◌⊎◌, inl, inr, ℕ, zero, suc, ◌-◌, ◌<◌, ◌≤◌, ◌==◌, cond, true, false, List, [], ◌∷◌, ◌++◌, length, length-drop, take, drop, Option, Some, None, refl, ap, sym, subst, ◌∙◌, arith, append_assoc, cases_order, slice_get, slice_index_or, SourceEvent, Resolution, Assignment, AskLaws, StoreLaws, RunLaws, AskedFor, Obeys, until_return, SourceRunWith, MayCome, LegalStore, Rule, Live, OneMode, Owner, NotWritten, UnderItsLock, ReadSharedOrOneThread, Holds, number, RuleLaws, Return, IsLowestAt, EventFault, Verdict, EventLine, NextEvent, Wants, Spent, Nothing, IsSpent, Accepted, IsFirstRefused, IsAsked, IsNotLegal, IsAgainst, FailsBy, Refused, Audits, IsFault, next_asked, IsLine, AreLines, told, FindsEntries, AreKnown}, Answering.{told_asked, asked_is, computed_asked, spent_is, is_spent_at}, Breaking.{obeys_more, lowest_broken_last, broken_is}}
 
 -- ---- rules
 
@@ -87,7 +87,11 @@ pub record Standing (m : Assignment) (fuel : ℕ) (lines : List EventLine) (R : 
   pub run : SourceRunWith fuel m R
   pub obeys : Obeys R until_return
 
-module _ (ask : AskLaws) (store : StoreLaws) (runs : RunLaws) (rules : RuleLaws) (m : Assignment) (one : OneMain m.typed) (fuel : ℕ) where
+-- the verdict on what was read is that on what was given
+pub of_read : {m n : Assignment} {all lines : List EventLine} (fuel : ℕ) (v : Verdict) → m ≡ n → all ≡ lines → Audits m fuel all v → Audits n fuel lines v
+of_read {m = m} {lines = lines} fuel v p q h = subst (λ z. Audits z fuel lines v) p (subst (λ z. Audits m fuel z v) q h)
+
+module _ (ask : AskLaws) (store : StoreLaws) (runs : RunLaws) (rules : RuleLaws) (m : Assignment) (one : FindsEntries m.typed) (fuel : ℕ) where
   -- one list of events at most is that of the lines
 
   pub one_event : (R : List SourceEvent) (l : EventLine) (d e : SourceEvent) → LegalStore m.typed R → IsLine m.typed l d → AskedFor m fuel R d → IsLine m.typed l e → AskedFor m fuel R e → d ≡ e

@@ -5,7 +5,6 @@ pub mod Entries
 pub mod Answering
 pub mod Breaking
 pub mod Auditing
-pub mod Mains
 pub mod Walking
 pub mod Knowing
 pub mod Numerals

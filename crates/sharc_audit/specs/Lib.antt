@@ -7,7 +7,6 @@ pub mod Grammar
 pub mod Judging
 pub mod Known
 pub mod Lines
-pub mod Mains
 pub mod Reported
 pub mod Running
 pub mod Texts

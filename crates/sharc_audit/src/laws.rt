@@ -2,8 +2,7 @@
 
 ghost use Rattle.sharc_audit.specs.{Audited.OneVerdict, FileLaws.FileLaws, Running.RunsNeverFail};
 
-use sharc_ctype_laws::laws::one_function_of_name;
-use sharc_judge::laws::rule_laws;
+use sharc_judge::laws::{entry_laws, rule_laws};
 use sharc_meaning::laws::{ask_laws, run_laws, store_laws};
 
 /// A list of event lines has one verdict at most.
@@ -14,7 +13,7 @@ pub fn audit_laws()
     store_laws();
     run_laws();
     rule_laws();
-    one_function_of_name();
+    entry_laws();
 }
 
 /// The lines of a source run that obeys never fail: with each fuel they obey, or the fuel of a thread is spent.
@@ -25,7 +24,7 @@ pub fn runs_never_fail()
     store_laws();
     run_laws();
     rule_laws();
-    one_function_of_name();
+    entry_laws();
 }
 
 /// A text is one event file at most, and then no line is the first that continues none; and that line is one.

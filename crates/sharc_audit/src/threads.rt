@@ -4,11 +4,11 @@ ghost use Rattle.std.specs.Prelude.{◌≡◌, ◌+◌, ◌-◌, ◌<◌, ◌≤
 ghost use Rattle.std.specs.{Prelude.{MatchOption, IsTrue, true, false, slice_get, Some}, List.list_any};
 ghost use Rattle.sharc_meaning.specs.{Events.{is_of, events_of}, Meaning.asks, Store.spawns};
 ghost use Rattle.sharc_ctype.specs.Resolved.{Resolution, function_at};
-ghost use Rattle.sharc_audit.specs.Judging.{main_of, entry, has_begun, start_of, start_at, next_asked, next_in};
+ghost use Rattle.sharc_audit.specs.Judging.{has_begun, start_of, start_at, next_asked, next_in};
 ghost use Rattle.sharc_audit.specs.{Judging.{own_answers, event_at}, Known.{AreKnown, ArePlaces}, Reported.AreTold};
-ghost use Rattle.sharc_audit.specs.{Reported.told_in, Walks.IsWalk, Mains.OneMain, Lines.{told, told_to, IsLine}};
+ghost use Rattle.sharc_audit.specs.{Reported.told_in, Walks.IsWalk, Lines.{told, told_to, IsLine}};
 ghost use Rattle.sharc_audit.specs.declared.threads.NextEvent.TheVariants.{Wants};
-ghost use Rattle.sharc_judge.specs.Kept.{IsSpawnedOnce};
+ghost use Rattle.sharc_judge.specs.{Kept.IsSpawnedOnce, Starting.{main_of, entry}};
 ghost use Rattle.sharc_tree.specs.declared.event.SourceEvent.{SourceEvent};
 
 use crate::line::EventLine;
@@ -16,7 +16,6 @@ use crate::reported::{Reported, told_behind_first};
 use crate::run::{ThreadRun, first_fuel, walk_to, walked};
 use crate::runs::Runs;
 use sharc_ctype::typed::Typed;
-use sharc_ctype_laws::laws::one_function_of_name;
 use sharc_judge::Past;
 use sharc_meaning::laws::ask_laws;
 use sharc_mode::moded::Moded;
@@ -32,26 +31,6 @@ pub enum NextEvent {
     Spent,
     /// Nothing.
     Nothing,
-}
-
-/// The number of `main`. Out of memory is answered also where there are more functions than a number of 32 bits counts.
-pub(crate) fn main_of(typed: &Typed) -> Result<Option<u32>, AllocError>
-    ensures main { IfOk result (λ f. f ≡ main_of typed.now) }
-    ensures one { OnOk result (OneMain typed.now) }
-{
-    one_function_of_name();
-    typed.program();
-    for n in 0..u32::MAX {
-        match typed.function_at(n) {
-            None => return Ok(None),
-            Some(f) => {
-                if f.name.text.as_slice() == b"main".as_slice() {
-                    return Ok(Some(n));
-                }
-            }
-        }
-    }
-    Err(AllocError)
 }
 
 /// The function and the argument of a thread.

@@ -6,14 +6,14 @@ ghost use Rattle.sharc_ctype.specs.{Resolved.named_at, Transfers.parameters_name
 ghost use Rattle.sharc_mode.specs.{Expressions.{expected, notes_of, notes_of_all}, Notes.{agree_notes, call_notes}};
 
 use crate::passing::{Passed, Passing, without_first};
-use crate::rules::{agree, call, cast, expected, field, place, source};
+use crate::rules::{Noted, agree, call, cast, expected, field, place, source};
 use sharc_ctype::typed::parameters_named;
 use sharc_mode::finding::Finding;
 use sharc_mode::moded::Moded;
 use sharc_mode::row::{PathReading, base_use, named_row};
 use sharc_tree::token::Span;
 use sharc_tree::tree::{Declaration, Expr, Identifier};
-use std::alloc::{AllocError, Global};
+use std::alloc::Global;
 
 // What is said of a spawn, beside what is said of what it passes.
 fn spawned(
@@ -23,7 +23,7 @@ fn spawned(
     name: &Identifier,
     value: &Expr,
     notes: &mut Vec<Finding>,
-) -> Result<(), AllocError>
+) -> Noted
     ensures { let ds = parameters_named program.now.typed (named_at program.now.typed name.now.site.token) in
         let all = argument (view_expr value.now) no_arguments in
         OnOk result (notes.new.items ≡ notes.old.items
@@ -48,7 +48,7 @@ pub(crate) fn expression(
     program: &Moded,
     expr: &Expr,
     notes: &mut Vec<Finding>,
-) -> Result<(), AllocError>
+) -> Noted
     ensures { OnOk result (notes.new.items ≡ notes.old.items ++ notes_of program.now (view_expr expr.now)) }
 {
     match expr {
@@ -98,7 +98,7 @@ fn called(
     name: &Identifier,
     list: &[Expr],
     notes: &mut Vec<Finding>,
-) -> Result<(), AllocError>
+) -> Noted
     ensures { let ds = parameters_named program.now.typed (named_at program.now.typed name.now.site.token) in
         let all = view_arguments list.now in
         OnOk result (notes.new.items ≡ notes.old.items

@@ -35,6 +35,9 @@ use sharc_tree::token::Span;
 use sharc_tree::tree::{Declaration, Expr, PlaceCall, WrittenType};
 use std::alloc::{AllocError, Global};
 
+/// Whether the findings could be added: nothing but memory can be lacking.
+pub type Noted = Result<(), AllocError>;
+
 /// `void` with no levels, where no type is shown.
 fn no_type(alloc: Global) -> CType
     ensures { result ≡ no_type }
@@ -86,7 +89,7 @@ fn differ(
     root: Root<'_>,
     rows: (Targets<'_>, Targets<'_>),
     notes: &mut Vec<Finding>,
-) -> Result<(), AllocError>
+) -> Noted
     requires expected { rows.0.first + rows.0.count ≤ position_count program.now.typed }
     requires found { rows.1.first + rows.1.count ≤ position_count program.now.typed }
     ensures { OnOk result (notes.new.items ≡ notes.old.items ++ mismatch code span
@@ -107,7 +110,7 @@ pub(crate) fn agree(
     expected: Option<Targets<'_>>,
     expr: &Expr,
     notes: &mut Vec<Finding>,
-) -> Result<(), AllocError>
+) -> Noted
     requires { EndsWithin program.now.typed expected }
     ensures { OnOk result (notes.new.items ≡ notes.old.items ++ agree_notes program.now
         (option_map (modes_of program.now) (view_rows expected.entry)) (view_expr expr.now)) }
@@ -141,7 +144,7 @@ fn readonly(
     code: ErrorCode,
     place: &Expr,
     notes: &mut Vec<Finding>,
-) -> Result<(), AllocError>
+) -> Noted
     ensures { OnOk result (notes.new.items
         ≡ notes.old.items ++ error_where (is_readonly (cell_at program.now (view_expr place.now))) code
         (span_of (view_expr place.now)) (span_text program.now.typed (span_of (view_expr place.now)))) }
@@ -155,12 +158,7 @@ fn readonly(
 }
 
 /// M2
-pub(crate) fn write(
-    alloc: Global,
-    program: &Moded,
-    place: &Expr,
-    notes: &mut Vec<Finding>,
-) -> Result<(), AllocError>
+pub(crate) fn write(alloc: Global, program: &Moded, place: &Expr, notes: &mut Vec<Finding>) -> Noted
     ensures { OnOk result (notes.new.items ≡ notes.old.items ++ write_notes program.now (view_expr place.now)) }
 {
     readonly(alloc, program, ErrorCode::ReadonlyWrite, place, notes)
@@ -174,7 +172,7 @@ pub(crate) fn cast(
     to: &WrittenType,
     from: &Expr,
     notes: &mut Vec<Finding>,
-) -> Result<(), AllocError>
+) -> Noted
     ensures { OnOk result (notes.new.items
         ≡ notes.old.items ++ cast_notes program.now.typed to.now.span to.now.ctype.base
         (modes_of program.now (cast_row program.now.typed span)) (modes_at program.now (view_expr from.now))) }
@@ -214,7 +212,7 @@ pub fn taken_variable(typed: &Typed, place: &Expr) -> Option<u32>
     }
 }
 
-fn takes(span: Span, variable: Option<u32>, notes: &mut Vec<Finding>) -> Result<(), AllocError>
+fn takes(span: Span, variable: Option<u32>, notes: &mut Vec<Finding>) -> Noted
     ensures { OnOk result (notes.new.items ≡ notes.old.items ++ takes span variable) }
 {
     if let Some(variable) = variable {
@@ -229,7 +227,7 @@ pub(crate) fn source(
     program: &Moded,
     place: &Expr,
     notes: &mut Vec<Finding>,
-) -> Result<(), AllocError>
+) -> Noted
     ensures { OnOk result (notes.new.items ≡ notes.old.items ++ source_notes program.now (view_expr place.now)) }
 {
     readonly(alloc, program, ErrorCode::ReadonlySource, place, notes)?;
@@ -244,7 +242,7 @@ pub(crate) fn place(
     call: PlaceCall,
     place: &Expr,
     notes: &mut Vec<Finding>,
-) -> Result<(), AllocError>
+) -> Noted
     ensures { OnOk result (notes.new.items ≡ notes.old.items ++ place_notes program.now call (view_expr place.now)) }
 {
     match call {
@@ -254,7 +252,7 @@ pub(crate) fn place(
     }
 }
 
-fn name(variable: Option<u32>, notes: &mut Vec<Finding>) -> Result<(), AllocError>
+fn name(variable: Option<u32>, notes: &mut Vec<Finding>) -> Noted
     ensures { OnOk result (notes.new.items ≡ notes.old.items ++ names_of variable) }
 {
     if let Some(variable) = variable {
@@ -264,11 +262,7 @@ fn name(variable: Option<u32>, notes: &mut Vec<Finding>) -> Result<(), AllocErro
 }
 
 /// The variable or the global that the path of a mode names.
-pub(crate) fn name_in(
-    typed: &Typed,
-    s: Sharing<'_>,
-    notes: &mut Vec<Finding>,
-) -> Result<(), AllocError>
+pub(crate) fn name_in(typed: &Typed, s: Sharing<'_>, notes: &mut Vec<Finding>) -> Noted
     ensures { OnOk result (notes.new.items ≡ notes.old.items ++ names_in typed.now (view_sharing s.entry)) }
 {
     match s {
@@ -281,11 +275,7 @@ pub(crate) fn name_in(
 }
 
 /// The variables and globals that the paths of a row name.
-fn names_in_row(
-    program: &Moded,
-    row: Targets<'_>,
-    notes: &mut Vec<Finding>,
-) -> Result<(), AllocError>
+fn names_in_row(program: &Moded, row: Targets<'_>, notes: &mut Vec<Finding>) -> Noted
     requires { row.first + row.count ≤ position_count program.now.typed }
     ensures { OnOk result (notes.new.items
         ≡ notes.old.items ++ names_in_all program.now.typed (modes_of program.now (view_row row.entry))) }
@@ -325,7 +315,7 @@ fn sibling(
     span: Span,
     base: Option<u32>,
     notes: &mut Vec<Finding>,
-) -> Result<(), AllocError>
+) -> Noted
     ensures { OnOk result (notes.new.items ≡ notes.old.items ++ sibling_notes typed.now span base) }
 {
     match base {
@@ -346,7 +336,7 @@ pub(crate) fn field(
     base: Option<u32>,
     targets: Targets<'_>,
     notes: &mut Vec<Finding>,
-) -> Result<(), AllocError>
+) -> Noted
     requires { targets.first + targets.count ≤ position_count program.now.typed }
     ensures { OnOk result (notes.new.items
         ≡ notes.old.items ++ field_notes program.now.typed span base (modes_of program.now (view_row targets.entry))) }
@@ -470,7 +460,7 @@ fn said_unmet(
     span: Span,
     lock: Option<Lock<'_>>,
     notes: &mut Vec<Finding>,
-) -> Result<(), AllocError>
+) -> Noted
     ensures { OnOk result (notes.new.items ≡ notes.old.items ++ unmet_notes typed.now span (view_locks lock.entry)) }
 {
     if let Some(lock) = lock {
@@ -486,7 +476,7 @@ fn name_read(
     reading: PathReading<'_>,
     level: &Option<Mode>,
     notes: &mut Vec<Finding>,
-) -> Result<(), AllocError>
+) -> Noted
     ensures { OnOk result (notes.new.items
         ≡ notes.old.items ++ names_read typed.now (view_reading reading.entry) level.now) }
 {
@@ -502,7 +492,7 @@ fn names_read(
     reading: PathReading<'_>,
     levels: &[Option<Mode>],
     notes: &mut Vec<Finding>,
-) -> Result<(), AllocError>
+) -> Noted
     ensures { OnOk result (notes.new.items
         ≡ notes.old.items ++ flat_map (names_read typed.now (view_reading reading.entry)) levels.now) }
 {
@@ -518,7 +508,7 @@ fn parameter_names(
     passing: Passing<'_>,
     parameter: &Declaration,
     notes: &mut Vec<Finding>,
-) -> Result<(), AllocError>
+) -> Noted
     ensures { OnOk result (notes.new.items ≡ notes.old.items ++ parameter_names program.now
         (at_call passing.entry.parameters.now (view_passed passing.entry.passed)) parameter.now) }
 {
@@ -530,11 +520,7 @@ fn parameter_names(
 }
 
 /// The variables and globals that the substituted paths name.
-fn names_at_call(
-    program: &Moded,
-    passing: Passing<'_>,
-    notes: &mut Vec<Finding>,
-) -> Result<(), AllocError>
+fn names_at_call(program: &Moded, passing: Passing<'_>, notes: &mut Vec<Finding>) -> Noted
     ensures { OnOk result (notes.new.items ≡ notes.old.items ++ names_at_call program.now passing.entry.parameters.now
         (view_passed passing.entry.passed) passing.entry.parameters.now) }
 {
@@ -551,7 +537,7 @@ pub(crate) fn call(
     span: Span,
     passing: Passing<'_>,
     notes: &mut Vec<Finding>,
-) -> Result<(), AllocError>
+) -> Noted
     ensures { OnOk result (notes.new.items ≡ notes.old.items
         ++ call_notes program.now span passing.entry.parameters.now (view_passed passing.entry.passed)) }
 {

@@ -8,19 +8,14 @@ ghost use Rattle.sharc_mode.specs.Expressions.{return_notes, first_notes, head_n
 ghost use Rattle.sharc_mode.specs.{Expressions.{item_notes, items_notes}, Rows.modes_of, View.{view_rows, EndsWithin}};
 
 use crate::expr::expression;
-use crate::rules::{agree, write};
+use crate::rules::{Noted, agree, write};
 use sharc_mode::finding::Finding;
 use sharc_mode::moded::Moded;
 use sharc_mode::row::{PathReading, Targets, declared_row, row_of};
 use sharc_tree::tree::{Expr, ForFirst, ForHead, Item, Local, Right, Simple, Stmt};
-use std::alloc::{AllocError, Global};
+use std::alloc::Global;
 
-fn optional(
-    alloc: Global,
-    program: &Moded,
-    expr: &Option<Expr>,
-    notes: &mut Vec<Finding>,
-) -> Result<(), AllocError>
+fn optional(alloc: Global, program: &Moded, expr: &Option<Expr>, notes: &mut Vec<Finding>) -> Noted
     ensures { OnOk result (notes.new.items
         ≡ notes.old.items ++ option_notes (notes_of program.now) (view_option view_expr expr.now)) }
 {
@@ -37,7 +32,7 @@ fn right(
     want: Option<Targets<'_>>,
     right: &Right,
     notes: &mut Vec<Finding>,
-) -> Result<(), AllocError>
+) -> Noted
     requires { EndsWithin program.now.typed want }
     ensures { OnOk result (notes.new.items ≡ notes.old.items
         ++ right_notes program.now (option_map (modes_of program.now) (view_rows want.entry)) (view_right right.now)) }
@@ -51,12 +46,7 @@ fn right(
     }
 }
 
-fn simple(
-    alloc: Global,
-    program: &Moded,
-    simple: &Simple,
-    notes: &mut Vec<Finding>,
-) -> Result<(), AllocError>
+fn simple(alloc: Global, program: &Moded, simple: &Simple, notes: &mut Vec<Finding>) -> Noted
     ensures { OnOk result (notes.new.items ≡ notes.old.items ++ simple_notes program.now (view_simple simple.now)) }
 {
     match simple {
@@ -75,7 +65,7 @@ fn initial(
     want: Option<Targets<'_>>,
     value: &Option<Right>,
     notes: &mut Vec<Finding>,
-) -> Result<(), AllocError>
+) -> Noted
     requires { EndsWithin program.now.typed want }
     ensures { OnOk result (notes.new.items ≡ notes.old.items ++ option_notes (right_notes program.now
         (option_map (modes_of program.now) (view_rows want.entry))) (view_option view_right value.now)) }
@@ -86,12 +76,7 @@ fn initial(
     }
 }
 
-fn local(
-    alloc: Global,
-    program: &Moded,
-    local: &Local,
-    notes: &mut Vec<Finding>,
-) -> Result<(), AllocError>
+fn local(alloc: Global, program: &Moded, local: &Local, notes: &mut Vec<Finding>) -> Noted
     ensures { OnOk result (notes.new.items ≡ notes.old.items ++ local_notes program.now (view_local local.now)) }
 {
     let token = local.declaration.name.site.token;
@@ -99,12 +84,7 @@ fn local(
     initial(alloc, program, Some(want), &local.initial, notes)
 }
 
-fn first(
-    alloc: Global,
-    program: &Moded,
-    first: &ForFirst,
-    notes: &mut Vec<Finding>,
-) -> Result<(), AllocError>
+fn first(alloc: Global, program: &Moded, first: &ForFirst, notes: &mut Vec<Finding>) -> Noted
     ensures { OnOk result (notes.new.items ≡ notes.old.items ++ first_notes program.now (view_first first.now)) }
 {
     match first {
@@ -114,12 +94,7 @@ fn first(
     }
 }
 
-fn step(
-    alloc: Global,
-    program: &Moded,
-    step: &Option<Simple>,
-    notes: &mut Vec<Finding>,
-) -> Result<(), AllocError>
+fn step(alloc: Global, program: &Moded, step: &Option<Simple>, notes: &mut Vec<Finding>) -> Noted
     ensures { OnOk result (notes.new.items
         ≡ notes.old.items ++ option_notes (simple_notes program.now) (view_option view_simple step.now)) }
 {
@@ -129,12 +104,7 @@ fn step(
     }
 }
 
-fn head(
-    alloc: Global,
-    program: &Moded,
-    head: &ForHead,
-    notes: &mut Vec<Finding>,
-) -> Result<(), AllocError>
+fn head(alloc: Global, program: &Moded, head: &ForHead, notes: &mut Vec<Finding>) -> Noted
     ensures { OnOk result (notes.new.items ≡ notes.old.items ++ head_notes program.now (view_head head.now)) }
 {
     first(alloc, program, &head.first, notes)?;
@@ -149,7 +119,7 @@ fn returned(
     function: u32,
     value: &Option<Box<Expr>>,
     notes: &mut Vec<Finding>,
-) -> Result<(), AllocError>
+) -> Noted
     ensures { OnOk result (notes.new.items ≡ notes.old.items
         ++ option_notes (return_notes program.now function) (view_option (λ b. view_expr b.value) value.now)) }
 {
@@ -171,7 +141,7 @@ fn statement(
     function: u32,
     stmt: &Stmt,
     notes: &mut Vec<Finding>,
-) -> Result<(), AllocError>
+) -> Noted
     ensures { OnOk result (notes.new.items ≡ notes.old.items ++ notes_in program.now function (view_stmt stmt.now)) }
 {
     match stmt {
@@ -214,7 +184,7 @@ fn statements(
     function: u32,
     all: &[Stmt],
     notes: &mut Vec<Finding>,
-) -> Result<(), AllocError>
+) -> Noted
     ensures { OnOk result (notes.new.items
         ≡ notes.old.items ++ notes_in_all program.now function (view_statements all.now)) }
 {
@@ -224,12 +194,7 @@ fn statements(
     Ok(())
 }
 
-fn item(
-    alloc: Global,
-    program: &Moded,
-    item: &Item,
-    notes: &mut Vec<Finding>,
-) -> Result<(), AllocError>
+fn item(alloc: Global, program: &Moded, item: &Item, notes: &mut Vec<Finding>) -> Noted
     ensures { OnOk result (notes.new.items ≡ notes.old.items ++ item_notes program.now (view_item item.now)) }
 {
     match item {
@@ -254,7 +219,7 @@ pub(crate) fn items(
     program: &Moded,
     items: &[Item],
     notes: &mut Vec<Finding>,
-) -> Result<(), AllocError>
+) -> Noted
     ensures { OnOk result (notes.new.items ≡ notes.old.items ++ items_notes program.now (view_items items.now)) }
 {
     for one in items {

@@ -9,7 +9,7 @@ ghost use Rattle.sharc_reach.specs.Reaching.{AreReached};
 ghost use Rattle.sharc_check.specs.Threads.{function_notes, global_notes, touched_by};
 
 use crate::rule_laws::spawned_are_told;
-use crate::rules::error;
+use crate::rules::{Noted, error};
 use crate::types::is_private_level;
 use sharc_mode::cell::pointed;
 use sharc_mode::error::ErrorCode;
@@ -41,7 +41,7 @@ fn parameter(
     name: &Name,
     of: &Declaration,
     notes: &mut Vec<Finding>,
-) -> Result<(), AllocError>
+) -> Noted
     ensures { OnOk result (notes.new.items ≡ notes.old.items ++ parameter_notes program.now name.now of.now) }
 {
     if has_private_target(program, of.name.site.token) {
@@ -61,7 +61,7 @@ fn parameters(
     name: &Name,
     all: &[Declaration],
     notes: &mut Vec<Finding>,
-) -> Result<(), AllocError>
+) -> Noted
     ensures { OnOk result (notes.new.items
         ≡ notes.old.items ++ flat_map (parameter_notes program.now name.now) all.now) }
 {
@@ -77,7 +77,7 @@ fn function(
     spawned: bool,
     of: Option<&FunctionDefinition>,
     notes: &mut Vec<Finding>,
-) -> Result<(), AllocError>
+) -> Noted
     ensures { OnOk result (notes.new.items
         ≡ notes.old.items ++ function_notes program.now spawned (option_map (λ f. view_function f.now) of.entry)) }
 {
@@ -105,7 +105,7 @@ pub(crate) fn spawned(
     program: &Moded,
     reached: &Reached,
     notes: &mut Vec<Finding>,
-) -> Result<(), AllocError>
+) -> Noted
     requires { AreReached program.now.typed reached.now }
     ensures { OnOk result (notes.new.items
         ≡ notes.old.items ++ spawned_notes program.now 0 (functions_in program.now.typed.program.items)) }
@@ -133,7 +133,7 @@ fn global(
     touched: bool,
     of: Option<&GlobalDefinition>,
     notes: &mut Vec<Finding>,
-) -> Result<(), AllocError>
+) -> Noted
     ensures { OnOk result (notes.new.items ≡ notes.old.items ++ global_notes touched (option_copied of.entry)) }
 {
     match of {
@@ -165,7 +165,7 @@ pub(crate) fn touched(
     program: &Moded,
     reached: &Reached,
     notes: &mut Vec<Finding>,
-) -> Result<(), AllocError>
+) -> Noted
     requires { length reached.now.firsts ≡ length (globals_in program.now.typed.program.items) }
     ensures { OnOk result (notes.new.items
         ≡ notes.old.items ++ touched_notes (touched_by reached.now) 0 (globals_in program.now.typed.program.items)) }

@@ -8,7 +8,7 @@ ghost use Rattle.sharc_mode.specs.{Notes.type_notes, WellFormed.{place_of, holds
 ghost use Rattle.sharc_mode.specs.WellFormed.{first_unfit_mode};
 ghost use Rattle.sharc_check.specs.Levels.{is_shared_top, holds_below};
 
-use crate::rules::{error, mismatch, name_in};
+use crate::rules::{Noted, error, mismatch, name_in};
 use sharc_ctype::entity::Numbered;
 use sharc_ctype::typed::Typed;
 use sharc_mode::cell::top_of;
@@ -23,7 +23,7 @@ use sharc_mode::types::{first_unfit_mode, first_unfit_path, is_private_mode};
 use sharc_names::types::Role;
 use sharc_tree::ctype::Mode;
 use sharc_tree::name::Name;
-use std::alloc::{AllocError, Global};
+use std::alloc::Global;
 
 /// Where the type of such an entity is written.
 fn place_of(role: Role) -> Place
@@ -69,12 +69,7 @@ fn holds_private(program: &Moded, numbered: &Numbered) -> bool
 }
 
 /// M3
-fn private(
-    alloc: Global,
-    program: &Moded,
-    numbered: &Numbered,
-    notes: &mut Vec<Finding>,
-) -> Result<(), AllocError>
+fn private(alloc: Global, program: &Moded, numbered: &Numbered, notes: &mut Vec<Finding>) -> Noted
     requires { numbered.now.first + positions_of numbered.now.entity ≤ position_count program.now.typed }
     ensures { OnOk result (notes.new.items ≡ notes.old.items ++ private_notes program.now numbered.now) }
 {
@@ -88,12 +83,7 @@ fn private(
 }
 
 /// M4
-fn path(
-    alloc: Global,
-    typed: &Typed,
-    numbered: &Numbered,
-    notes: &mut Vec<Finding>,
-) -> Result<(), AllocError>
+fn path(alloc: Global, typed: &Typed, numbered: &Numbered, notes: &mut Vec<Finding>) -> Noted
     ensures { OnOk result (notes.new.items ≡ notes.old.items
         ++ path_notes numbered.now.entity.written.span (first_unfit_path typed.now (place_of numbered.now.entity.role)
         numbered.now.entity.written.ctype.base numbered.now.entity.written.ctype.levels)) }
@@ -112,7 +102,7 @@ fn path(
 }
 
 /// M5
-fn mode(alloc: Global, numbered: &Numbered, notes: &mut Vec<Finding>) -> Result<(), AllocError>
+fn mode(alloc: Global, numbered: &Numbered, notes: &mut Vec<Finding>) -> Noted
     ensures { OnOk result (notes.new.items ≡ notes.old.items
         ++ mode_notes numbered.now.entity.written.span (first_unfit_mode (place_of numbered.now.entity.role)
         numbered.now.entity.written.ctype.base numbered.now.entity.written.ctype.levels)) }
@@ -166,7 +156,7 @@ fn private_field(
     typed: &Typed,
     numbered: &Numbered,
     notes: &mut Vec<Finding>,
-) -> Result<(), AllocError>
+) -> Noted
     ensures { OnOk result (notes.new.items ≡ notes.old.items ++ private_field_notes typed.now numbered.now) }
 {
     let entity = &numbered.entity;
@@ -177,11 +167,7 @@ fn private_field(
     Ok(())
 }
 
-fn name_in_level(
-    typed: &Typed,
-    level: &Option<Mode>,
-    notes: &mut Vec<Finding>,
-) -> Result<(), AllocError>
+fn name_in_level(typed: &Typed, level: &Option<Mode>, notes: &mut Vec<Finding>) -> Noted
     ensures { OnOk result (notes.new.items ≡ notes.old.items ++ names_in_level typed.now level.now) }
 {
     match level {
@@ -191,7 +177,7 @@ fn name_in_level(
 }
 
 /// The variables and globals that the paths of a type name.
-fn names(typed: &Typed, levels: &[Option<Mode>], notes: &mut Vec<Finding>) -> Result<(), AllocError>
+fn names(typed: &Typed, levels: &[Option<Mode>], notes: &mut Vec<Finding>) -> Noted
     ensures { OnOk result (notes.new.items ≡ notes.old.items ++ flat_map (names_in_level typed.now) levels.now) }
 {
     for level in levels {
@@ -201,12 +187,7 @@ fn names(typed: &Typed, levels: &[Option<Mode>], notes: &mut Vec<Finding>) -> Re
 }
 
 /// Says what is to be said of the type of an entity.
-fn type_said(
-    alloc: Global,
-    program: &Moded,
-    numbered: &Numbered,
-    notes: &mut Vec<Finding>,
-) -> Result<(), AllocError>
+fn type_said(alloc: Global, program: &Moded, numbered: &Numbered, notes: &mut Vec<Finding>) -> Noted
     requires { numbered.now.first + positions_of numbered.now.entity ≤ position_count program.now.typed }
     ensures { OnOk result (notes.new.items ≡ notes.old.items ++ type_notes program.now numbered.now) }
 {
@@ -223,11 +204,7 @@ fn type_said(
 }
 
 /// Says what is to be said of all types.
-pub(crate) fn types(
-    alloc: Global,
-    program: &Moded,
-    notes: &mut Vec<Finding>,
-) -> Result<(), AllocError>
+pub(crate) fn types(alloc: Global, program: &Moded, notes: &mut Vec<Finding>) -> Noted
     ensures { OnOk result (notes.new.items ≡ notes.old.items
         ++ flat_map (type_notes program.now) (numbered (entities_in program.now.typed.program.items))) }
 {

@@ -1,7 +1,7 @@
 -- What the proofs cite of std, of other crates and of this crate's definitions, passed on from one place.
 pub use Rattle.std.proofs.{Common.{Bool, List, None, Option, Some, [], ap, append_assoc, arith, bytes_eq, codes, cond, drop, eq-eqb, eqb-true, false, if◌then◌else◌, inl, inr, is_some, length, length-append, map, nat_lt, ne_eqb, not, refl, reverse, subst, suc, sym, take, true, zero, ℕ, ⊎_elim, ◌&&◌, ◌*◌, ◌++◌, ◌+◌, ◌-◌, ◌<◌, ◌==◌, ◌||◌, ◌∙◌, ◌∷◌, ◌≡◌, ◌≤◌, ◌⊎◌}, lemmas.Bool.{cases_eq, cases_lt, false≢true}, lemmas.Bool.Decides.nat_tests, lemmas.List.{append-nil, get_or_past, length-map, reverse-reverse, take-append-drop, take-append-le, take_all, take_at}, lemmas.List.Elements.filter-append}
 pub use Rattle.std.specs.{List.AllByRecursion, Prelude.{Err, Ok, Result, filter, nat_eq, negsuc, pos, slice_get, slice_index_or, ℤ}}
-pub use Rattle.sharc_lemmas.proofs.{Lists.{reverse_cons, there_is as inside_list}, Options.{none_some, same_bool, same_some}}
+pub use Rattle.sharc_lemmas.proofs.{Lists.{reverse_cons, there_is as inside_list}, Options.{none_some, same_bool, same_some}, Numbers.same_test}
 pub use Rattle.sharc_tree.specs.{Spans.span_of, Tree.{Arguments, Expression, First, Function, Local, Right, Simple, Statement, Statements, argument, assign, binary, block, call, cast, constant, declare, declares, does, does_call, empty, field, for, identifier, if_then, if_then_else, index, jump, malloc, no_arguments, no_statements, nothing, on_place, on_value, parentheses, return, simple, spawn, statement, unary, value, while}, declared.ctype.Base.Base, declared.event.Act.Act, declared.event.SourceEvent.SourceEvent, declared.token.Site.Site, declared.token.Span.Span, declared.trap.Trap.Trap, declared.tree.declaration.Declaration.Declaration, declared.tree.declaration.Identifier.Identifier, declared.tree.declaration.WrittenType.WrittenType, declared.tree.expression.BinaryOperator.BinaryOperator, declared.tree.expression.BinaryOperator.TheVariants.{Equal, Greater, GreaterOrEqual, Less, LessOrEqual, LogicalAnd, LogicalOr, NotEqual, ShiftLeft, ShiftRight}, declared.tree.expression.FieldOperator.FieldOperator, declared.tree.expression.FieldOperator.TheVariants.{Arrow, Dot}, declared.tree.expression.PlaceCall.PlaceCall, declared.tree.expression.PlaceCall.TheVariants.{Free, Lock, Unlock}, declared.tree.expression.UnaryOperator.TheVariants.{Complement, Dereference, Negate, Not}, declared.tree.expression.ValueCall.ValueCall, declared.tree.expression.ValueCall.TheVariants.{Join, Print}, declared.tree.statement.Jump.Jump, declared.tree.statement.Jump.TheVariants.{Break, Continue}}
 pub use Rattle.sharc_names.specs.{Kinds.{Kind, common, declared_kind, declared_kinds, element_kind, is_array, is_integer, is_integral, is_long, is_pointer, long, object, promoted}, declared.fault.Named.Named}
 pub use Rattle.sharc_ctype.specs.{Reaches.Spawns, Resolved.{Resolution, function_at, functions_in, global_at, kind_at, named_at, result_kind_of}, Transfers.{parameters_named, parameters_of}}
@@ -14,4 +14,4 @@ pub use Rattle.sharc_flat_lemmas.{proofs.Flow.{Knowledge, agrees_all}, specs.Pie
 pub use Rattle.sharc_guard.specs.{Correct.Resolved, Counted.{IsBeside, LockStands, LocksStand}, Guard.{body, check_under, entered_at, expand, expanded, head, own, place, tail}, Known.dropped, Level.{Calls, Enters, Fits, IsEntry, IsLevel, Leaves, Level, Resumes, Slots, Takes, free, full, result_slot, slot_of as cell_slot, with_moved, with_slot}}
 pub use Rattle.sharc_flat_laws.specs.Tables.{IsSpawned, MadeSpawns, SpawnMeets}
 pub use Rattle.sharc_compile.specs.{Correct.{IsBeginning, begins}, Generated.{instr_of, program_of}, Made.IsCodeOf, OfRuns.told_in, Runs.RunsFollowSource, Source.{FollowsSource, IsOverAs}}
-pub use Rattle.sharc_compile_laws.specs.{Laws.{FlattenedIsLevel, FlattenedLocksStand, MadeIsLevel, MadeLocksStand}, Names.{CodeHasMain, FunctionsAreNamed}, Paths.{IsAskedFor, TellsProgram}, Started.{SpawnedAreThreads, ThreadsMayStart}, Threads.{TellsIn, ThreadsTell}}
+pub use Rattle.sharc_compile_laws.specs.{Laws.{FlattenedIsLevel, FlattenedLocksStand, MadeIsLevel, MadeLocksStand}, Names.{CodeHasMain, FunctionsAreNamed}, Paths.{IsAskedFor, TellsProgram}, Started.{SpawnedAreThreads, ThreadsMayStart}, Threads.{AreOf, IsFirstOf, OwnAreTold, TellsIn, ThreadsTell}}

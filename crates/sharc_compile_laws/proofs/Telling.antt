@@ -1,5 +1,5 @@
 -- What the threads of a run report, among the events of all threads.
-use Rattle.sharc_compile_laws.proofs.Imports.{◌≡◌, ℕ, ℤ, ◌+◌, ◌<◌, inl, inr, ⊎_elim, Bool, true, false, cond, List, [], ◌∷◌, ◌++◌, length, map, reverse, refl, sym, ap, ◌∙◌, subst, arith, slice_get, nat_tests, append-nil, reverse-reverse, filter-append, ◌==◌, nat_eq, filter, slice_index_or, SourceEvent, function_at, functions_in, Assignment, events_of, is_of, asks, IsNamedAt, answers_of, by, Code, Row, no_function, Said, said_by, Erase, FlatCode, flat_of, rows_of, names_of, Flattens, globals_of, entered_at, place, dropped, begins, program_of, told_in, IsCodeOf, RunsFollowSource, FollowsSource, TellsIn, ThreadsTell, reverse_cons}
+use Rattle.sharc_compile_laws.proofs.Imports.{◌≡◌, ℕ, ℤ, ◌+◌, ◌<◌, inl, inr, ⊎_elim, Bool, true, false, cond, List, [], ◌∷◌, ◌++◌, length, map, reverse, refl, sym, ap, ◌∙◌, subst, arith, slice_get, nat_tests, append-nil, reverse-reverse, filter-append, ◌==◌, nat_eq, filter, slice_index_or, SourceEvent, function_at, functions_in, Assignment, events_of, is_of, asks, IsNamedAt, answers_of, by, Code, Row, no_function, Said, said_by, Erase, FlatCode, flat_of, rows_of, names_of, Flattens, globals_of, entered_at, place, dropped, begins, program_of, told_in, IsCodeOf, RunsFollowSource, FollowsSource, TellsIn, ThreadsTell, reverse_cons, AreOf, IsFirstOf, OwnAreTold, same_test}
 use Rattle.sharc_flat_lemmas.proofs.{Functions.{are_rows, row_of, rows_as_many}, Laid.{mapped_same, rows_many, rows_same}}
 use Rattle.sharc_lemmas.proofs.{Lists.some_there, Numbers.same_test}
 
@@ -14,10 +14,6 @@ filter_reverse f (x ∷ xs) =
     by false = append-nil (reverse (filter f xs))
 
 -- ---- whose events they are
-abbrev AreOf : ℕ → List SourceEvent → Type 0
-AreOf t [] = Unit {0}
-AreOf t (e ∷ es) = (e.thread ≡ t) × AreOf t es
-
 of_append : (t : ℕ) (xs ys : List SourceEvent) → AreOf t xs → AreOf t ys → AreOf t (xs ++ ys)
 of_append t [] ys a b = b
 of_append t (x ∷ xs) ys a b = (a.0, of_append t xs ys a.1 b)
@@ -60,28 +56,27 @@ filtered t (s ∷ says) h =
     by false = refl
 
 -- ---- where its first event is
-record IsSplit (t : ℕ) (R : List SourceEvent) (e : SourceEvent) (es : List SourceEvent) : Type 0 where
-  before : List SourceEvent
-  after : List SourceEvent
-  is : R ≡ before ++ e ∷ after
-  none : events_of t before ≡ []
-  rest : events_of t after ≡ es
-
-split : (t : ℕ) (R : List SourceEvent) (e : SourceEvent) (es : List SourceEvent) → events_of t R ≡ e ∷ es → IsSplit t R e es
+split : (t : ℕ) (R : List SourceEvent) (e : SourceEvent) (es : List SourceEvent) → events_of t R ≡ e ∷ es → IsFirstOf t R e es
 split t [] e es q = absurd (cc)
 split t (x ∷ R) e es q = by (is_of t x) refl q (split t R e es)
   where
-    by : (b : Bool) → is_of t x ≡ b → cond b (x ∷ events_of t R) (events_of t R) ≡ e ∷ es → (events_of t R ≡ e ∷ es → IsSplit t R e es) → IsSplit t (x ∷ R) e es
-    by true w q rec = record { before = []; after = R; is = let h : x ≡ e = cc in ap (λ x. x ∷ R) h; none = refl; rest = cc }
+    by : (b : Bool) → is_of t x ≡ b → cond b (x ∷ events_of t R) (events_of t R) ≡ e ∷ es → (events_of t R ≡ e ∷ es → IsFirstOf t R e es) → IsFirstOf t (x ∷ R) e es
+    by true w q rec = record { before = []; after = R; stands = let h : x ≡ e = cc in ap (λ x. x ∷ R) h; first = refl; rest = cc }
     by false w q rec =
         let h = rec q in
         record {
           before = x ∷ h.before;
           after = h.after;
-          is = ap (λ R. x ∷ R) h.is;
-          none = ap (λ b. cond b (x ∷ events_of t h.before) (events_of t h.before)) w ∙ h.none;
+          stands = ap (λ R. x ∷ R) h.stands;
+          first = ap (λ b. cond b (x ∷ events_of t h.before) (events_of t h.before)) w ∙ h.first;
           rest = h.rest;
         }
+
+pub told_are_own : OwnAreTold
+told_are_own = record {
+  own = λ says own t. filter_reverse (is_of t) (told_in says) ∙ ap reverse (filtered t says (all_own says (λ t. subst (AreOf t) (reverse-reverse (told_in (said_by t says))) (of_reverse t (reverse (told_in (said_by t says))) (own t)))));
+  first = split;
+}
 
 -- ---- the site of a Started is the name of its function
 -- the Started of an existing function is at its name
@@ -113,15 +108,12 @@ tell law m suits flat made fits code is s run checked consistent t =
     let says = Erase code s run in
     let R = reverse (told_in says) in
     let told : ℕ → List SourceEvent = λ t. reverse (told_in (said_by t (Erase code s run))) in
-    let owned : (t : ℕ) → AreOf t (told_in (said_by t says)) = λ t.
-    subst (AreOf t) (reverse-reverse (told_in (said_by t says)))
-    (of_reverse t (told t)
-    (⊎_elim
+    let owned : (t : ℕ) → AreOf t (told t) = λ t. ⊎_elim
     (λ b. subst (AreOf t) (sym b.nothing) tt)
     (λ (h : FollowsSource m code (program_of is.g) (length flat.functions.items) t _ (told t) _ _). subst (AreOf t) (sym h.starts) (refl, of_map t h.after))
-    (law m suits flat made fits code is s t run checked (consistent t))))
+    (law m suits flat made fits code is s t run checked (consistent t))
     in
-    let events : events_of t R ≡ told t = filter_reverse (is_of t) (told_in says) ∙ ap reverse (filtered t says (all_own says owned)) in
+    let events : events_of t R ≡ told t = told_are_own.own says owned t in
     ⊎_elim
     (λ b. inl (events ∙ b.nothing))
     (λ (h : FollowsSource m code (program_of is.g) (length flat.functions.items) t _ (told t) _ _). inr (tells R h events))
@@ -137,9 +129,9 @@ tell law m suits flat made fits code is s run checked consistent t =
           before = sp.before;
           begins = start;
           after = sp.after;
-          stands = sp.is;
+          stands = sp.stands;
           own = refl;
-          first = sp.none;
+          first = sp.first;
           act = refl;
           answer = refl;
           site = started_at_name m flat made code is h.function h.argument h.known;

@@ -2,11 +2,16 @@
 
 ghost use Rattle.sharc_compile_laws.specs.{Names.{CodeHasMain, FunctionsAreNamed}, Paths.{OfTyped, PathsTell}};
 ghost use Rattle.sharc_compile_laws.specs.{Paths.ThreadsTellInRuns, Started.{SpawnedAreThreads, ThreadsMayStart}};
-ghost use Rattle.sharc_compile_laws.specs.{Threads.ThreadsTell, Typed.TypedThreadsTell};
+ghost use Rattle.sharc_compile_laws.specs.{Threads.{OwnAreTold, ThreadsTell}, Typed.TypedThreadsTell};
 
 use sharc_compile::{program_law, run_law};
 use sharc_ctype_laws::laws::{has_main, one_function_of_name, spawns_threads};
 use sharc_flat_laws::laws::{made_spawns, typed_suits};
+
+/// The events of a thread in a history are what it says, where each thread says its own alone.
+pub fn own_are_told()
+    ensures { OwnAreTold }
+{}
 
 /// What a thread reports in a checked run of the code of a program, in any interleaving, is what the program asks for
 /// by the answers of these events, after the Started of a function at its name; where the results of the paths of all

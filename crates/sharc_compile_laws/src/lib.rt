@@ -17,6 +17,6 @@ pub mod flattened;
 mod laws;
 
 pub use laws::{
-    functions_are_named, spawned_are_threads, threads_may_start, threads_tell, typed_paths_tell,
-    typed_threads_tell,
+    functions_are_named, own_are_told, spawned_are_threads, threads_may_start, threads_tell,
+    typed_paths_tell, typed_threads_tell,
 };

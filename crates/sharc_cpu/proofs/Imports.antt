@@ -8,4 +8,4 @@ pub use Rattle.sharc_heap.specs.{Accesses.Accesses, Functions.{bits_of, conflict
 pub use Rattle.sharc_locks.specs.{HeldLog.{Holds, object_of}, declared.held_log.HeldMutex.HeldMutex}
 unfoldable pub use Rattle.sharc_locks.specs.Waiters.{lowest_of, without_lowest}
 pub use Rattle.sharc_code.specs.{Arithmetic.{computed, holds, in_range, int_of, is_zero, word_of}, Layout.{first_shadow, granule_at, granule_of, granules}, Machine.{Asks, Local, Machine, Own, Turn, accessed, act, asserts, check, checked, field_of, goes, goes_to, indexed, instr_at, int, is_held, is_of_null, lock_checked, lower, next, place, raise, ref, set_int, set_ref, step_of, stopped, to, with_note, with_own, with_result, word, wrote}, Outcomes.{Refused, Stops, TurnOutcome, TurnsComeOut, own_after, state_after}, Path.{Goes, IsPath, TurnLeads, after, begun, counted, events_of_path, events_of_turn, machine_after, made_in, may_go, most_ints, most_refs, turn}, Stages.IsStageOf, ThreadLaws.{Keeps, ThreadLaws}, Waits.wait_of, declared.code.Code.Code, declared.instr.Cell.Cell, declared.instr.Instr.Instr, declared.instr.Instr.TheVariants.{Bounds, Call, ChkHeld, ChkLock, ChkNotHeld, ChkNull, ChkRead, ChkRoom, ChkWidth, ChkWrite, ComputeInt, ComputeLong, Constant, GlobalBounds, Jump, JumpIfNull, JumpIfZero, Load, LoadRef, Lock, Lower, Move, MoveReference, Not, Null, Raise, RaiseLoaded, Return, Store, Unlock}, declared.instr.Operator.Operator, declared.instr.Width.Width, declared.instr.Width.TheVariants.{Char, Int, Long}, declared.shape.Shape.Shape, declared.state.At.At, declared.state.Frame.Frame, declared.state.Print.Print, declared.state.Stage.TheVariants.Rests, declared.state.Stop.Stop, declared.state.Stop.TheVariants.{Conflict, NoLock}, declared.state.TurnState.TurnState, declared.state.TurnState.TheVariants.{Ended, Runs, Stopped, Tries}}
-pub use Rattle.sharc_cpu.specs.{Quantum.{Advanced, GoesWhere, pause_of, ran_or_blocked}, Rare.is_rare, Rows.{Begins, BeginsPair, Changes, Copies, Finishes, FrameTurns, Indexes, IsIndex, IsKept, IsNarrow, Locals, Operates, OperatesInPlace, OperatesOnNumber, OperatesOnVariable, Sets, Tests, Within, operated, past_three, with_frame}, Thread.{IsThread, ThreadView, is_stop}, View.{IsWithin, KeepsPort, Makes, machine_of, rest_of}, declared.pairs.FusedInstructions.FusedInstructions, declared.parts.ThreadParts.ThreadParts, declared.quantum.Pause.Pause, declared.rows.Row.Row, declared.rows.Row.TheVariants.One}
+pub use Rattle.sharc_cpu.specs.{Quantum.{Advanced, GoesWhere, IsQuantum, pause_of, ran_or_blocked}, Rare.is_rare, Rows.{Begins, BeginsPair, Changes, Copies, Finishes, FrameTurns, Indexes, IsIndex, IsKept, IsNarrow, Locals, Operates, OperatesInPlace, OperatesOnNumber, OperatesOnVariable, Sets, Tests, Within, operated, past_three, with_frame}, Thread.{IsThread, ThreadView, is_stop}, View.{IsWithin, KeepsPort, Makes, machine_of, rest_of}, declared.pairs.FusedInstructions.FusedInstructions, declared.parts.ThreadParts.ThreadParts, declared.quantum.Pause.Pause, declared.quantum.Pause.TheVariants.Ran, declared.rows.Row.Row, declared.rows.Row.TheVariants.One}

@@ -7,11 +7,11 @@ ghost use Rattle.sharc_code.specs.Layout.{IsShape, granules, words_of, granule_a
 ghost use Rattle.sharc_code.specs.Arithmetic.{word_of, int_of};
 ghost use Rattle.sharc_code.specs.Machine.{Asks, step_of, int, ref, set_int, set_ref, goes, accessed, place, word};
 ghost use Rattle.sharc_code.specs.Machine.{is_of_null, object, without_base, indexed, largest};
-ghost use Rattle.sharc_cpu.specs.View.{machine_of, Makes, KeepsPort};
+ghost use Rattle.sharc_cpu.specs.View.{machine_of, KeepsPort, MayTurn, MakesTurn};
 
 use crate::arithmetic::{int_of, word_of};
 use crate::parts::ThreadParts;
-use crate::places::{Done, go_on, next};
+use crate::places::{Done, after_step, go_on, next};
 use crate::turns::indexed;
 use sharc_code::{At, Cell, Shape, cell_of};
 use sharc_word::{Port, WordOp, WordStep};
@@ -141,19 +141,11 @@ pub(crate) fn load_word<P: Port>(
 ) -> u64
     requires place { at.old.pc + 1 < 2 ^ 64 }
     requires word { word < P.count port.old }
-    ensures turn { Makes (P.serves port.old) P.leads (Asks (step_of word ops.Load)
-        (λ found. goes (accessed (set_int (machine_of at.old parts.old) register (int_of found))))) parts.old.number
-        (machine_of at.new parts.new) result (P.place port.old) (P.place port.new) }
-    ensures port { KeepsPort P.count P.name P.serves port.old port.new }
-    ensures room { vec_capacity parts.new.prints ≡ vec_capacity parts.old.prints }
+    ensures { MakesTurn P.Port (λ m. Asks (step_of word ops.Load)
+        (λ found. goes (accessed (set_int m register (int_of found)))))
+        at.old parts.old at.new parts.new result port.old port.new }
 {
-    let found = ask(
-        port,
-        WordStep {
-            word,
-            op: WordOp::Load,
-        },
-    );
+    let found = ask(port, step_of(word, WordOp::Load));
     parts.set_int(*at, register, int_of(found));
     parts.set_pending(0);
     go_on(at);
@@ -170,15 +162,10 @@ pub(crate) fn load<P: Port>(
     register: u32,
     cell: Cell,
 ) -> u64
-    requires shape { IsShape shape }
-    requires place { at.old.pc + 1 < 2 ^ 64 }
-    requires words { P.count port.old ≡ words_of shape }
-    ensures turn { Makes (P.serves port.old) P.leads
-        (Asks (step_of (word shape (machine_of at.old parts.old) cell) ops.Load)
-        (λ found. goes (accessed (set_int (machine_of at.old parts.old) register (int_of found))))) parts.old.number
-        (machine_of at.new parts.new) result (P.place port.old) (P.place port.new) }
-    ensures port { KeepsPort P.count P.name P.serves port.old port.new }
-    ensures room { vec_capacity parts.new.prints ≡ vec_capacity parts.old.prints }
+    requires { MayTurn P.Port shape at.old port.old }
+    ensures { MakesTurn P.Port (λ m. Asks (step_of (word shape m cell) ops.Load)
+        (λ found. goes (accessed (set_int m register (int_of found)))))
+        at.old parts.old at.new parts.new result port.old port.new }
 {
     let word = word(shape, *at, parts, cell);
     load_word(at, parts, port, register, word)
@@ -195,21 +182,12 @@ pub(crate) fn store_word<P: Port>(
 ) -> u64
     requires place { at.old.pc + 1 < 2 ^ 64 }
     requires word { word < P.count port.old }
-    ensures turn { Makes (P.serves port.old) P.leads
-        (Asks (step_of word (ops.Swap (word_of (int (machine_of at.old parts.old) register))))
-        (λ found. goes (accessed (machine_of at.old parts.old)))) parts.old.number (machine_of at.new parts.new) result
-        (P.place port.old) (P.place port.new) }
-    ensures port { KeepsPort P.count P.name P.serves port.old port.new }
-    ensures room { vec_capacity parts.new.prints ≡ vec_capacity parts.old.prints }
+    ensures { MakesTurn P.Port (λ m. Asks (step_of word (ops.Swap (word_of (int m register))))
+        (λ found. goes (accessed m)))
+        at.old parts.old at.new parts.new result port.old port.new }
 {
     let value = word_of(parts.int(*at, register));
-    let found = ask(
-        port,
-        WordStep {
-            word,
-            op: WordOp::Swap(value),
-        },
-    );
+    let found = ask(port, step_of(word, WordOp::Swap(value)));
     parts.set_pending(0);
     go_on(at);
     found
@@ -225,15 +203,10 @@ pub(crate) fn store<P: Port>(
     register: u32,
     cell: Cell,
 ) -> u64
-    requires shape { IsShape shape }
-    requires place { at.old.pc + 1 < 2 ^ 64 }
-    requires words { P.count port.old ≡ words_of shape }
-    ensures turn { Makes (P.serves port.old) P.leads
-        (Asks (step_of (word shape (machine_of at.old parts.old) cell) (ops.Swap (word_of
-        (int (machine_of at.old parts.old) register)))) (λ found. goes (accessed (machine_of at.old parts.old))))
-        parts.old.number (machine_of at.new parts.new) result (P.place port.old) (P.place port.new) }
-    ensures port { KeepsPort P.count P.name P.serves port.old port.new }
-    ensures room { vec_capacity parts.new.prints ≡ vec_capacity parts.old.prints }
+    requires { MayTurn P.Port shape at.old port.old }
+    ensures { MakesTurn P.Port (λ m. Asks (step_of (word shape m cell) (ops.Swap (word_of (int m register))))
+        (λ found. goes (accessed m)))
+        at.old parts.old at.new parts.new result port.old port.new }
 {
     let word = word(shape, *at, parts, cell);
     store_word(at, parts, port, register, word)
@@ -248,29 +221,15 @@ pub(crate) fn load_reference<P: Port>(
     port: &mut P,
     cell: Cell,
 ) -> Done
-    requires shape { IsShape shape }
-    requires place { at.pc + 1 < 2 ^ 64 }
-    requires words { P.count port.old ≡ words_of shape }
-    ensures turn { Makes (P.serves port.old) P.leads
-        (Asks (step_of (word shape (machine_of at parts.old) cell) ops.Load)
-        (λ found. goes (record (machine_of at parts.old) { pending = found }))) parts.old.number
-        (machine_of result.at parts.new) result.found (P.place port.old) (P.place port.new) }
-    ensures port { KeepsPort P.count P.name P.serves port.old port.new }
-    ensures room { vec_capacity parts.new.prints ≡ vec_capacity parts.old.prints }
+    requires { MayTurn P.Port shape at port.old }
+    ensures { MakesTurn P.Port (λ m. Asks (step_of (word shape m cell) ops.Load)
+        (λ found. goes (record m { pending = found })))
+        at parts.old result.at parts.new result.found port.old port.new }
 {
     let word = word(shape, at, parts, cell);
-    let found = ask(
-        port,
-        WordStep {
-            word,
-            op: WordOp::Load,
-        },
-    );
+    let found = ask(port, step_of(word, WordOp::Load));
     parts.set_pending(found);
-    Done {
-        at: next(at),
-        found,
-    }
+    after_step(next(at), found)
 }
 
 /// The reference of this register goes to the cell, and that of the cell to the register.
@@ -283,31 +242,17 @@ pub(crate) fn exchange<P: Port>(
     register: u32,
     cell: Cell,
 ) -> Done
-    requires shape { IsShape shape }
-    requires place { at.pc + 1 < 2 ^ 64 }
-    requires words { P.count port.old ≡ words_of shape }
-    ensures turn { Makes (P.serves port.old) P.leads
-        (Asks (step_of (word shape (machine_of at parts.old) cell) (ops.Swap (ref (machine_of at parts.old) register)))
-        (λ found. goes (accessed (set_ref (machine_of at parts.old) register found)))) parts.old.number
-        (machine_of result.at parts.new) result.found (P.place port.old) (P.place port.new) }
-    ensures port { KeepsPort P.count P.name P.serves port.old port.new }
-    ensures room { vec_capacity parts.new.prints ≡ vec_capacity parts.old.prints }
+    requires { MayTurn P.Port shape at port.old }
+    ensures { MakesTurn P.Port (λ m. Asks (step_of (word shape m cell) (ops.Swap (ref m register)))
+        (λ found. goes (accessed (set_ref m register found))))
+        at parts.old result.at parts.new result.found port.old port.new }
 {
     let word = word(shape, at, parts, cell);
     let reference = parts.reference(at, register);
-    let found = ask(
-        port,
-        WordStep {
-            word,
-            op: WordOp::Swap(reference),
-        },
-    );
+    let found = ask(port, step_of(word, WordOp::Swap(reference)));
     parts.set_reference(at, register, found);
     parts.set_pending(0);
-    Done {
-        at: next(at),
-        found,
-    }
+    after_step(next(at), found)
 }
 
 /// To this reference register, the reference of the cell, which is then NULL.
@@ -320,29 +265,16 @@ pub(crate) fn take_cell<P: Port>(
     register: u32,
     cell: Cell,
 ) -> Done
-    requires shape { IsShape shape }
-    requires place { at.pc + 1 < 2 ^ 64 }
-    requires words { P.count port.old ≡ words_of shape }
-    ensures turn { Makes (P.serves port.old) P.leads (Asks (step_of (word shape (machine_of at parts.old) cell)
-        (ops.Swap 0)) (λ found. goes (accessed (set_ref (machine_of at parts.old) register found)))) parts.old.number
-        (machine_of result.at parts.new) result.found (P.place port.old) (P.place port.new) }
-    ensures port { KeepsPort P.count P.name P.serves port.old port.new }
-    ensures room { vec_capacity parts.new.prints ≡ vec_capacity parts.old.prints }
+    requires { MayTurn P.Port shape at port.old }
+    ensures { MakesTurn P.Port (λ m. Asks (step_of (word shape m cell) (ops.Swap 0))
+        (λ found. goes (accessed (set_ref m register found))))
+        at parts.old result.at parts.new result.found port.old port.new }
 {
     let word = word(shape, at, parts, cell);
-    let found = ask(
-        port,
-        WordStep {
-            word,
-            op: WordOp::Swap(0),
-        },
-    );
+    let found = ask(port, step_of(word, WordOp::Swap(0)));
     parts.set_reference(at, register, found);
     parts.set_pending(0);
-    Done {
-        at: next(at),
-        found,
-    }
+    after_step(next(at), found)
 }
 
 /// The register, an index of the object, becomes the number of a field of that element.
@@ -358,24 +290,15 @@ pub(crate) fn bounds<P: Port>(
     field: u32,
     site: u32,
 ) -> Done
-    requires shape { IsShape shape }
-    requires place { at.pc + 1 < 2 ^ 64 }
-    requires words { P.count port.old ≡ words_of shape }
-    ensures turn { Makes (P.serves port.old) P.leads
-        (Asks (step_of (length_word shape (ref (machine_of at parts.old) base)) ops.Load)
-        (indexed (machine_of at parts.old) register (int (machine_of at parts.old) register) cells field site))
-        parts.old.number (machine_of result.at parts.new) result.found (P.place port.old) (P.place port.new) }
-    ensures port { KeepsPort P.count P.name P.serves port.old port.new }
-    ensures room { vec_capacity parts.new.prints ≡ vec_capacity parts.old.prints }
+    requires { MayTurn P.Port shape at port.old }
+    ensures { MakesTurn P.Port (λ m. Asks (step_of (length_word shape (ref m base)) ops.Load)
+        (indexed m register (int m register) cells field site))
+        at parts.old result.at parts.new result.found port.old port.new }
 {
     let word = shape.length_word(parts.reference(at, base));
-    let found = ask(
-        port,
-        WordStep {
-            word,
-            op: WordOp::Load,
-        },
-    );
-    let at = indexed(at, parts, register, cells, field, site, found);
-    Done { at, found }
+    let found = ask(port, step_of(word, WordOp::Load));
+    after_step(
+        indexed(at, parts, register, cells, field, site, found),
+        found,
+    )
 }

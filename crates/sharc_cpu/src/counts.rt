@@ -2,13 +2,13 @@
 
 ghost use Rattle.std.specs.Prelude.{◌≡◌, ◌<◌, ◌+◌, ◌^◌, vec_capacity};
 ghost use Rattle.sharc_heap.specs.Count.{test_of};
-ghost use Rattle.sharc_code.specs.Layout.{IsShape, words_of, count_word};
+ghost use Rattle.sharc_code.specs.Layout.{count_word};
 ghost use Rattle.sharc_code.specs.Machine.{Asks, ref, set_ref, move_ref, goes, accessed, raise, lower, test, tested};
-ghost use Rattle.sharc_cpu.specs.View.{machine_of, Makes, KeepsPort};
+ghost use Rattle.sharc_cpu.specs.View.{machine_of, MayTurn, MakesTurn};
 
 use crate::cells::ask;
 use crate::parts::ThreadParts;
-use crate::places::{Done, local, next};
+use crate::places::{Done, after_step, local, next};
 use crate::turns::stopped;
 use sharc_code::{At, Shape, Stop};
 use sharc_word::Port;
@@ -37,14 +37,9 @@ pub(crate) fn raise<P: Port>(
     register: u32,
     from: u32,
 ) -> Done
-    requires shape { IsShape shape }
-    requires place { at.pc + 1 < 2 ^ 64 }
-    requires words { P.count port.old ≡ words_of shape }
-    ensures turn { Makes (P.serves port.old) P.leads (raise shape (ref (machine_of at parts.old) from)
-        (goes (set_ref (machine_of at parts.old) register (ref (machine_of at parts.old) from)))) parts.old.number
-        (machine_of result.at parts.new) result.found (P.place port.old) (P.place port.new) }
-    ensures port { KeepsPort P.count P.name P.serves port.old port.new }
-    ensures room { vec_capacity parts.new.prints ≡ vec_capacity parts.old.prints }
+    requires { MayTurn P.Port shape at port.old }
+    ensures { MakesTurn P.Port (λ m. raise shape (ref m from) (goes (set_ref m register (ref m from))))
+        at parts.old result.at parts.new result.found port.old port.new }
 {
     let header = parts.reference(at, from);
     parts.set_reference(at, register, header);
@@ -52,10 +47,7 @@ pub(crate) fn raise<P: Port>(
         return local(next(at));
     }
     let found = ask(port, sharc_heap::count::raise(shape.count_word(header)));
-    Done {
-        at: next(at),
-        found,
-    }
+    after_step(next(at), found)
 }
 
 /// To this reference register, the reference that was loaded, which is counted.
@@ -67,14 +59,9 @@ pub(crate) fn raise_loaded<P: Port>(
     port: &mut P,
     register: u32,
 ) -> Done
-    requires shape { IsShape shape }
-    requires place { at.pc + 1 < 2 ^ 64 }
-    requires words { P.count port.old ≡ words_of shape }
-    ensures turn { Makes (P.serves port.old) P.leads (raise shape (machine_of at parts.old).pending
-        (goes (accessed (set_ref (machine_of at parts.old) register (machine_of at parts.old).pending))))
-        parts.old.number (machine_of result.at parts.new) result.found (P.place port.old) (P.place port.new) }
-    ensures port { KeepsPort P.count P.name P.serves port.old port.new }
-    ensures room { vec_capacity parts.new.prints ≡ vec_capacity parts.old.prints }
+    requires { MayTurn P.Port shape at port.old }
+    ensures { MakesTurn P.Port (λ m. raise shape m.pending (goes (accessed (set_ref m register m.pending))))
+        at parts.old result.at parts.new result.found port.old port.new }
 {
     let header = parts.pending;
     parts.set_reference(at, register, header);
@@ -83,10 +70,7 @@ pub(crate) fn raise_loaded<P: Port>(
         return local(next(at));
     }
     let found = ask(port, sharc_heap::count::raise(shape.count_word(header)));
-    Done {
-        at: next(at),
-        found,
-    }
+    after_step(next(at), found)
 }
 
 /// The reference of this register is counted once less, and the register is NULL.
@@ -98,14 +82,9 @@ pub(crate) fn lower<P: Port>(
     port: &mut P,
     register: u32,
 ) -> Done
-    requires shape { IsShape shape }
-    requires place { at.pc + 1 < 2 ^ 64 }
-    requires words { P.count port.old ≡ words_of shape }
-    ensures turn { Makes (P.serves port.old) P.leads
-        (lower shape (ref (machine_of at parts.old) register) (goes (set_ref (machine_of at parts.old) register 0)))
-        parts.old.number (machine_of result.at parts.new) result.found (P.place port.old) (P.place port.new) }
-    ensures port { KeepsPort P.count P.name P.serves port.old port.new }
-    ensures room { vec_capacity parts.new.prints ≡ vec_capacity parts.old.prints }
+    requires { MayTurn P.Port shape at port.old }
+    ensures { MakesTurn P.Port (λ m. lower shape (ref m register) (goes (set_ref m register 0)))
+        at parts.old result.at parts.new result.found port.old port.new }
 {
     let header = parts.reference(at, register);
     parts.set_reference(at, register, 0);
@@ -113,10 +92,7 @@ pub(crate) fn lower<P: Port>(
         return local(next(at));
     }
     let found = ask(port, sharc_heap::count::lower(shape.count_word(header)));
-    Done {
-        at: next(at),
-        found,
-    }
+    after_step(next(at), found)
 }
 
 /// To this reference register, that of the local in the other one, which is then NULL.
@@ -129,14 +105,9 @@ pub(crate) fn take_local<P: Port>(
     register: u32,
     from: u32,
 ) -> Done
-    requires shape { IsShape shape }
-    requires place { at.pc + 1 < 2 ^ 64 }
-    requires words { P.count port.old ≡ words_of shape }
-    ensures turn { Makes (P.serves port.old) P.leads
-        (test shape (ref (machine_of at parts.old) from) (goes (move_ref (machine_of at parts.old) register from)))
-        parts.old.number (machine_of result.at parts.new) result.found (P.place port.old) (P.place port.new) }
-    ensures port { KeepsPort P.count P.name P.serves port.old port.new }
-    ensures room { vec_capacity parts.new.prints ≡ vec_capacity parts.old.prints }
+    requires { MayTurn P.Port shape at port.old }
+    ensures { MakesTurn P.Port (λ m. test shape (ref m from) (goes (move_ref m register from)))
+        at parts.old result.at parts.new result.found port.old port.new }
 {
     let header = parts.reference(at, from);
     parts.set_reference(at, from, 0);
@@ -145,10 +116,7 @@ pub(crate) fn take_local<P: Port>(
         return local(next(at));
     }
     let found = ask(port, sharc_heap::count::test(shape.count_word(header)));
-    Done {
-        at: next(at),
-        found,
-    }
+    after_step(next(at), found)
 }
 
 /// A4 where the object in this register has another count than 1.
@@ -161,19 +129,13 @@ pub(crate) fn test_sole<P: Port>(
     register: u32,
     site: u32,
 ) -> Done
-    requires shape { IsShape shape }
-    requires place { at.pc + 1 < 2 ^ 64 }
-    requires words { P.count port.old ≡ words_of shape }
-    ensures turn { Makes (P.serves port.old) P.leads (Asks
-        (test_of (count_word shape (ref (machine_of at parts.old) register))) (tested (machine_of at parts.old) site))
-        parts.old.number (machine_of result.at parts.new) result.found (P.place port.old) (P.place port.new) }
-    ensures port { KeepsPort P.count P.name P.serves port.old port.new }
-    ensures room { vec_capacity parts.new.prints ≡ vec_capacity parts.old.prints }
+    requires { MayTurn P.Port shape at port.old }
+    ensures { MakesTurn P.Port (λ m. Asks (test_of (count_word shape (ref m register))) (tested m site))
+        at parts.old result.at parts.new result.found port.old port.new }
 {
     let word = shape.count_word(parts.reference(at, register));
     let found = ask(port, sharc_heap::count::test(word));
-    let at = tested(at, parts, site, found);
-    Done { at, found }
+    after_step(tested(at, parts, site, found), found)
 }
 
 /// The object in this register has a new mode.
@@ -185,19 +147,11 @@ pub(crate) fn give<P: Port>(
     port: &mut P,
     register: u32,
 ) -> Done
-    requires shape { IsShape shape }
-    requires place { at.pc + 1 < 2 ^ 64 }
-    requires words { P.count port.old ≡ words_of shape }
-    ensures turn { Makes (P.serves port.old) P.leads (Asks
-        (test_of (count_word shape (ref (machine_of at parts.old) register))) (λ found. goes (machine_of at parts.old)))
-        parts.old.number (machine_of result.at parts.new) result.found (P.place port.old) (P.place port.new) }
-    ensures port { KeepsPort P.count P.name P.serves port.old port.new }
-    ensures room { vec_capacity parts.new.prints ≡ vec_capacity parts.old.prints }
+    requires { MayTurn P.Port shape at port.old }
+    ensures { MakesTurn P.Port (λ m. Asks (test_of (count_word shape (ref m register))) (λ found. goes m))
+        at parts.old result.at parts.new result.found port.old port.new }
 {
     let word = shape.count_word(parts.reference(at, register));
     let found = ask(port, sharc_heap::count::test(word));
-    Done {
-        at: next(at),
-        found,
-    }
+    after_step(next(at), found)
 }

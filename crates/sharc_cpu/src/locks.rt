@@ -3,18 +3,18 @@
 ghost use Rattle.std.specs.Prelude.{◌≡◌, ◌<◌, ◌+◌, ◌^◌, ◌==◌, if◌then◌else◌, nat_lt, length, vec_capacity};
 ghost use Rattle.sharc_word.specs.declared.step.WordOp.TheVariants as ops;
 ghost use Rattle.sharc_word.specs.declared.step.TheConstants.{THREADS as threads};
-ghost use Rattle.sharc_code.specs.{Layout.{IsShape, words_of}, Machine.{Asks, step_of, word, goes, taken, locked}};
+ghost use Rattle.sharc_code.specs.Machine.{Asks, step_of, word, goes, taken, locked};
 ghost use Rattle.sharc_code.specs.Machine.{unlocked, rests, woken, wakes, signal};
 ghost use Rattle.sharc_locks.specs.Waiters.{without_lowest};
-ghost use Rattle.sharc_cpu.specs.View.{rest_of, machine_of, IsWithin, Makes, KeepsPort};
+ghost use Rattle.sharc_cpu.specs.View.{rest_of, machine_of, IsWithin, MayTurn, MakesTurn};
 
-use crate::cells::{ask, give_up_base, object, word};
+use crate::cells::{ask, give_up_base, object, step_of, word};
 use crate::checks::is_held;
 use crate::parts::ThreadParts;
-use crate::places::{Done, next, tries};
+use crate::places::{Done, after_step, next, tries};
 use crate::turns::{at_stage, rests};
 use sharc_code::{At, Cell, Shape, Stage};
-use sharc_word::{Port, WordOp, WordStep};
+use sharc_word::{Port, WordOp};
 
 /// Whether one mutex more may be held.
 #[inline(always)]
@@ -123,27 +123,15 @@ pub(crate) fn lock<P: Port>(
     port: &mut P,
     cell: Cell,
 ) -> Done
-    requires shape { IsShape shape }
-    requires place { at.pc + 1 < 2 ^ 64 }
-    requires words { P.count port.old ≡ words_of shape }
-    ensures turn { Makes (P.serves port.old) P.leads
-        (Asks (step_of (word shape (machine_of at parts.old) cell) (ops.Cas 0 (parts.old.number + 1)))
-        (locked (machine_of at parts.old) cell (word shape (machine_of at parts.old) cell))) parts.old.number
-        (machine_of result.at parts.new) result.found (P.place port.old) (P.place port.new) }
-    ensures port { KeepsPort P.count P.name P.serves port.old port.new }
-    ensures room { vec_capacity parts.new.prints ≡ vec_capacity parts.old.prints }
+    requires { MayTurn P.Port shape at port.old }
+    ensures { MakesTurn P.Port (λ m. Asks (step_of (word shape m cell) (ops.Cas 0 (parts.old.number + 1)))
+        (locked m cell (word shape m cell)))
+        at parts.old result.at parts.new result.found port.old port.new }
 {
     let word = word(shape, at, parts, cell);
     let holder = u64::from(parts.number) + 1;
-    let found = ask(
-        port,
-        WordStep {
-            word,
-            op: WordOp::Cas(0, holder),
-        },
-    );
-    let at = locked(at, parts, cell, word, found);
-    Done { at, found }
+    let found = ask(port, step_of(word, WordOp::Cas(0, holder)));
+    after_step(locked(at, parts, cell, word, found), found)
 }
 
 /// Gives the mutex in the cell back.
@@ -156,26 +144,14 @@ pub(crate) fn unlock<P: Port>(
     register: u32,
     cell: Cell,
 ) -> Done
-    requires shape { IsShape shape }
-    requires place { at.pc + 1 < 2 ^ 64 }
-    requires words { P.count port.old ≡ words_of shape }
-    ensures turn { Makes (P.serves port.old) P.leads
-        (Asks (step_of (word shape (machine_of at parts.old) cell) (ops.Swap 0)) (λ found.
-        unlocked (machine_of at parts.old) register (word shape (machine_of at parts.old) cell))) parts.old.number
-        (machine_of result.at parts.new) result.found (P.place port.old) (P.place port.new) }
-    ensures port { KeepsPort P.count P.name P.serves port.old port.new }
-    ensures room { vec_capacity parts.new.prints ≡ vec_capacity parts.old.prints }
+    requires { MayTurn P.Port shape at port.old }
+    ensures { MakesTurn P.Port (λ m. Asks (step_of (word shape m cell) (ops.Swap 0))
+        (λ found. unlocked m register (word shape m cell)))
+        at parts.old result.at parts.new result.found port.old port.new }
 {
     let word = word(shape, at, parts, cell);
-    let found = ask(
-        port,
-        WordStep {
-            word,
-            op: WordOp::Swap(0),
-        },
-    );
-    let at = unlocked(at, parts, register, word);
-    Done { at, found }
+    let found = ask(port, step_of(word, WordOp::Swap(0)));
+    after_step(unlocked(at, parts, register, word), found)
 }
 
 /// The thread is among the waiters in this cell.
@@ -187,23 +163,16 @@ pub(crate) fn enter<P: Port>(
     port: &mut P,
     cell: Cell,
 ) -> Done
-    requires shape { IsShape shape }
-    requires place { at.pc + 1 < 2 ^ 64 }
+    requires may { MayTurn P.Port shape at port.old }
     requires within { IsWithin shape (rest_of parts.old).own }
-    requires words { P.count port.old ≡ words_of shape }
-    ensures turn { Makes (P.serves port.old) P.leads (Asks (step_of (word shape (machine_of at parts.old) cell)
-        (ops.Or (2 ^ parts.old.number))) (λ found. goes (machine_of at parts.old))) parts.old.number
-        (machine_of result.at parts.new) result.found (P.place port.old) (P.place port.new) }
-    ensures port { KeepsPort P.count P.name P.serves port.old port.new }
-    ensures room { vec_capacity parts.new.prints ≡ vec_capacity parts.old.prints }
+    ensures { MakesTurn P.Port (λ m. Asks (step_of (word shape m cell) (ops.Or (2 ^ parts.old.number)))
+        (λ found. goes m))
+        at parts.old result.at parts.new result.found port.old port.new }
 {
     let word = word(shape, at, parts, cell);
     let op = sharc_locks::waiters::enter(parts.number);
-    let found = ask(port, WordStep { word, op });
-    Done {
-        at: next(at),
-        found,
-    }
+    let found = ask(port, step_of(word, op));
+    after_step(next(at), found)
 }
 
 /// Waits until it is not.
@@ -215,26 +184,14 @@ pub(crate) fn wait<P: Port>(
     port: &mut P,
     cell: Cell,
 ) -> Done
-    requires shape { IsShape shape }
-    requires place { at.pc + 1 < 2 ^ 64 }
+    requires may { MayTurn P.Port shape at port.old }
     requires within { IsWithin shape (rest_of parts.old).own }
-    requires words { P.count port.old ≡ words_of shape }
-    ensures turn { Makes (P.serves port.old) P.leads
-        (Asks (step_of (word shape (machine_of at parts.old) cell) ops.Load) (woken (machine_of at parts.old)))
-        parts.old.number (machine_of result.at parts.new) result.found (P.place port.old) (P.place port.new) }
-    ensures port { KeepsPort P.count P.name P.serves port.old port.new }
-    ensures room { vec_capacity parts.new.prints ≡ vec_capacity parts.old.prints }
+    ensures { MakesTurn P.Port (λ m. Asks (step_of (word shape m cell) ops.Load) (woken m))
+        at parts.old result.at parts.new result.found port.old port.new }
 {
     let word = word(shape, at, parts, cell);
-    let found = ask(
-        port,
-        WordStep {
-            word,
-            op: WordOp::Load,
-        },
-    );
-    let at = woken(at, parts, found);
-    Done { at, found }
+    let found = ask(port, step_of(word, WordOp::Load));
+    after_step(woken(at, parts, found), found)
 }
 
 /// Takes the lowest waiter away.
@@ -246,33 +203,20 @@ pub(crate) fn signal<P: Port>(
     port: &mut P,
     cell: Cell,
 ) -> Done
-    requires shape { IsShape shape }
-    requires place { at.pc + 1 < 2 ^ 64 }
-    requires words { P.count port.old ≡ words_of shape }
-    ensures turn { Makes (P.serves port.old) P.leads
-        (signal (machine_of at parts.old) (word shape (machine_of at parts.old) cell) parts.old.stage) parts.old.number
-        (machine_of result.at parts.new) result.found (P.place port.old) (P.place port.new) }
-    ensures port { KeepsPort P.count P.name P.serves port.old port.new }
-    ensures room { vec_capacity parts.new.prints ≡ vec_capacity parts.old.prints }
+    requires { MayTurn P.Port shape at port.old }
+    ensures { MakesTurn P.Port (λ m. signal m (word shape m cell) parts.old.stage)
+        at parts.old result.at parts.new result.found port.old port.new }
 {
     let word = word(shape, at, parts, cell);
     match parts.stage {
         Stage::Wakes(seen) => {
             let op = WordOp::Cas(seen, without_lowest(seen));
-            let found = ask(port, WordStep { word, op });
-            let at = signalled(at, parts, seen, found);
-            Done { at, found }
+            let found = ask(port, step_of(word, op));
+            after_step(signalled(at, parts, seen, found), found)
         }
         _ => {
-            let found = ask(
-                port,
-                WordStep {
-                    word,
-                    op: WordOp::Load,
-                },
-            );
-            let at = wakes(at, parts, found);
-            Done { at, found }
+            let found = ask(port, step_of(word, WordOp::Load));
+            after_step(wakes(at, parts, found), found)
         }
     }
 }
@@ -286,25 +230,11 @@ pub(crate) fn broadcast<P: Port>(
     port: &mut P,
     cell: Cell,
 ) -> Done
-    requires shape { IsShape shape }
-    requires place { at.pc + 1 < 2 ^ 64 }
-    requires words { P.count port.old ≡ words_of shape }
-    ensures turn { Makes (P.serves port.old) P.leads (Asks
-        (step_of (word shape (machine_of at parts.old) cell) (ops.Swap 0)) (λ found. goes (machine_of at parts.old)))
-        parts.old.number (machine_of result.at parts.new) result.found (P.place port.old) (P.place port.new) }
-    ensures port { KeepsPort P.count P.name P.serves port.old port.new }
-    ensures room { vec_capacity parts.new.prints ≡ vec_capacity parts.old.prints }
+    requires { MayTurn P.Port shape at port.old }
+    ensures { MakesTurn P.Port (λ m. Asks (step_of (word shape m cell) (ops.Swap 0)) (λ found. goes m))
+        at parts.old result.at parts.new result.found port.old port.new }
 {
     let word = word(shape, at, parts, cell);
-    let found = ask(
-        port,
-        WordStep {
-            word,
-            op: WordOp::Swap(0),
-        },
-    );
-    Done {
-        at: next(at),
-        found,
-    }
+    let found = ask(port, step_of(word, WordOp::Swap(0)));
+    after_step(next(at), found)
 }

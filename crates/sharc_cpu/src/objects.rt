@@ -8,7 +8,7 @@ ghost use Rattle.sharc_code.specs.{Layout.cell_of, Machine.{size_of, elements_of
 ghost use Rattle.sharc_code.specs.Machine.{asks_new, new, data_granules, data_granule, looks, clear, layout_at};
 ghost use Rattle.sharc_code.specs.Machine.{pointer_cell, fields, free_looks, empties, emptied, free_size, free_head};
 ghost use Rattle.sharc_code.specs.Machine.{freed, free, ref, int};
-ghost use Rattle.sharc_cpu.specs.View.{rest_of, machine_of, IsWithin, Makes, KeepsPort};
+ghost use Rattle.sharc_cpu.specs.View.{rest_of, machine_of, IsWithin, MayTurn, MakesTurn};
 
 use crate::cells::{ask, step_of};
 use crate::parts::ThreadParts;
@@ -109,23 +109,17 @@ fn asks_new<P: Port>(
     site: u32,
     state: NewState,
 ) -> Done
-    requires shape { IsShape shape }
-    requires place { at.pc + 1 < 2 ^ 64 }
+    requires may { MayTurn P.Port shape at port.old }
     requires arena { state.arguments.first + 2 * state.arguments.end ≡ words_of shape }
-    requires words { P.count port.old ≡ words_of shape }
-    ensures turn { Makes (P.serves port.old) P.leads
-        (asks_new (machine_of at parts.old) register site state (turn_of state)) parts.old.number
-        (machine_of result.at parts.new) result.found (P.place port.old) (P.place port.new) }
-    ensures port { KeepsPort P.count P.name P.serves port.old port.new }
-    ensures room { vec_capacity parts.new.prints ≡ vec_capacity parts.old.prints }
+    ensures { MakesTurn P.Port (λ m. asks_new m register site state (turn_of state))
+        at parts.old result.at parts.new result.found port.old port.new }
 {
     match state.turn() {
         NewTurn::Do(step) => {
             let found = ask(port, step);
             let mut told = state;
             let _ = told.next(found);
-            let at = goes_on_new(at, parts, register, site, told);
-            Done { at, found }
+            after_step(goes_on_new(at, parts, register, site, told), found)
         }
         NewTurn::Made(header) => local(made(at, parts, register, state, header)),
         NewTurn::HeapFull => local(trapped(at, parts, Trap::HeapFull, site)),
@@ -304,15 +298,10 @@ pub(crate) fn new<P: Port>(
     cells: u32,
     site: u32,
 ) -> Done
-    requires shape { IsShape shape }
-    requires place { at.pc + 1 < 2 ^ 64 }
+    requires may { MayTurn P.Port shape at port.old }
     requires within { IsWithin shape (rest_of parts.old).own }
-    requires words { P.count port.old ≡ words_of shape }
-    ensures turn { Makes (P.serves port.old) P.leads (new shape (machine_of at parts.old) register
-        (elements_of (int (machine_of at parts.old) count)) cells site parts.old.stage) parts.old.number
-        (machine_of result.at parts.new) result.found (P.place port.old) (P.place port.new) }
-    ensures port { KeepsPort P.count P.name P.serves port.old port.new }
-    ensures room { vec_capacity parts.new.prints ≡ vec_capacity parts.old.prints }
+    ensures { MakesTurn P.Port (λ m. new shape m register (elements_of (int m count)) cells site parts.old.stage)
+        at parts.old result.at parts.new result.found port.old port.new }
 {
     let stage = parts.stage;
     let state = match stage {
@@ -332,32 +321,24 @@ pub(crate) fn clear<P: Port>(
     register: u32,
     cells: u32,
 ) -> Done
-    requires shape { IsShape shape }
-    requires place { at.pc + 1 < 2 ^ 64 }
-    requires words { P.count port.old ≡ words_of shape }
-    ensures turn { Makes (P.serves port.old) P.leads
-        (clear shape (machine_of at parts.old) (ref (machine_of at parts.old) register) cells parts.old.stage)
-        parts.old.number (machine_of result.at parts.new) result.found (P.place port.old) (P.place port.new) }
-    ensures port { KeepsPort P.count P.name P.serves port.old port.new }
-    ensures room { vec_capacity parts.new.prints ≡ vec_capacity parts.old.prints }
+    requires { MayTurn P.Port shape at port.old }
+    ensures { MakesTurn P.Port (λ m. clear shape m (ref m register) cells parts.old.stage)
+        at parts.old result.at parts.new result.found port.old port.new }
 {
     let header = parts.reference(at, register);
     match parts.stage {
         Stage::Looks(done, all) => {
             let found = ask(port, step_of(data_word(shape, header, done), WordOp::Load));
-            let at = at_stage(at, parts, Stage::Clears(done, all, found));
-            Done { at, found }
+            after_step(at_stage(at, parts, Stage::Clears(done, all, found)), found)
         }
         Stage::Clears(done, all, seen) => {
             let word = data_word(shape, header, done);
             let found = ask(port, step_of(word, WordOp::Swap(cleared(seen))));
-            let at = looks_on(at, parts, done, all);
-            Done { at, found }
+            after_step(looks_on(at, parts, done, all), found)
         }
         _ => {
             let found = ask(port, step_of(shape.length_word(header), WordOp::Load));
-            let at = looks(at, parts, 0, data_granules(found, cells));
-            Done { at, found }
+            after_step(looks(at, parts, 0, data_granules(found, cells)), found)
         }
     }
 }
@@ -373,14 +354,9 @@ pub(crate) fn free<P: Port>(
     register: u32,
     layout: u32,
 ) -> Done
-    requires shape { IsShape shape }
-    requires place { at.pc + 1 < 2 ^ 64 }
-    requires words { P.count port.old ≡ words_of shape }
-    ensures turn { Makes (P.serves port.old) P.leads
-        (free code.now shape (machine_of at parts.old) register (layout_at code.now layout) parts.old.stage)
-        parts.old.number (machine_of result.at parts.new) result.found (P.place port.old) (P.place port.new) }
-    ensures port { KeepsPort P.count P.name P.serves port.old port.new }
-    ensures room { vec_capacity parts.new.prints ≡ vec_capacity parts.old.prints }
+    requires { MayTurn P.Port shape at port.old }
+    ensures { MakesTurn P.Port (λ m. free code.now shape m register (layout_at code.now layout) parts.old.stage)
+        at parts.old result.at parts.new result.found port.old port.new }
 {
     let header = parts.reference(at, register);
     let layout = layout_at(code, layout);

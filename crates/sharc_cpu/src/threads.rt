@@ -7,13 +7,13 @@ ghost use Rattle.sharc_code.specs.Layout.{IsShape, granules, words_of, function_
 ghost use Rattle.sharc_code.specs.{declared.state.Stage.TheVariants.Rests, Machine.{Asks, step_of, int, argument}};
 ghost use Rattle.sharc_code.specs.Machine.{handed, numbered, spawn, joined, join, printed, function_of, with_parameter};
 ghost use Rattle.sharc_code.specs.Machine.{entered, start, row_of, without_own, withdraws, withdrew, ends, exit};
-ghost use Rattle.sharc_cpu.specs.View.{rest_of, machine_of, IsWithin, Makes, KeepsPort};
+ghost use Rattle.sharc_cpu.specs.View.{rest_of, machine_of, AreOfShape, IsWithin, MayTurn, MakesTurn};
 
 use crate::arithmetic::{int_of, word_of};
 use crate::cells::{ask, step_of};
 use crate::checks::wrote;
 use crate::parts::ThreadParts;
-use crate::places::{Done, ends, local, next, settle, tries};
+use crate::places::{Done, after_step, ends, local, next, settle, tries};
 use crate::turns::{at_stage, called, rests, trapped};
 use sharc_code::{
     At, Code, NEXT_THREAD, PRINTS, Parameter, Register, Shape, Stage, argument_word, function_word,
@@ -228,41 +228,32 @@ pub(crate) fn spawn<P: Port>(
     from: Register,
     site: u32,
 ) -> Done
-    requires shape { IsShape shape }
-    requires place { at.pc + 1 < 2 ^ 64 }
+    requires may { MayTurn P.Port shape at port.old }
     requires within { IsWithin shape (rest_of parts.old).own }
-    requires words { P.count port.old ≡ words_of shape }
-    ensures turn { Makes (P.serves port.old) P.leads
-        (spawn (machine_of at parts.old) register function from site parts.old.stage) parts.old.number
-        (machine_of result.at parts.new) result.found (P.place port.old) (P.place port.new) }
-    ensures port { KeepsPort P.count P.name P.serves port.old port.new }
-    ensures room { vec_capacity parts.new.prints ≡ vec_capacity parts.old.prints }
+    ensures { MakesTurn P.Port (λ m. spawn m register function from site parts.old.stage)
+        at parts.old result.at parts.new result.found port.old port.new }
 {
     match parts.stage {
         Stage::Names(n) => {
             let name = WordOp::Swap(u64::from(function));
             let found = ask(port, step_of(function_word(n), name));
-            let at = at_stage(at, parts, Stage::Hands(n));
-            Done { at, found }
+            after_step(at_stage(at, parts, Stage::Hands(n)), found)
         }
         Stage::Hands(n) => {
             let word = argument_word(n);
             let argument = argument(at, parts, from);
             let found = ask(port, step_of(word, WordOp::Swap(argument)));
-            let at = at_stage(at, parts, Stage::Begins(n));
-            Done { at, found }
+            after_step(at_stage(at, parts, Stage::Begins(n)), found)
         }
         Stage::Begins(n) => {
             let found = ask(port, step_of(state_word(n), WordOp::Swap(1)));
             hand(at, parts, from);
             parts.set_int(at, register, i64::from(n));
-            let at = rests(at, parts);
-            Done { at, found }
+            after_step(rests(at, parts), found)
         }
         _ => {
             let found = ask(port, step_of(NEXT_THREAD, WordOp::Add(1)));
-            let at = numbered(at, parts, site, found);
-            Done { at, found }
+            after_step(numbered(at, parts, site, found), found)
         }
     }
 }
@@ -277,22 +268,16 @@ pub(crate) fn join<P: Port>(
     register: u32,
     site: u32,
 ) -> Done
-    requires shape { IsShape shape }
-    requires place { at.pc + 1 < 2 ^ 64 }
-    requires words { P.count port.old ≡ words_of shape }
-    ensures turn { Makes (P.serves port.old) P.leads
-        (join (machine_of at parts.old) (int (machine_of at parts.old) register) site) parts.old.number
-        (machine_of result.at parts.new) result.found (P.place port.old) (P.place port.new) }
-    ensures port { KeepsPort P.count P.name P.serves port.old port.new }
-    ensures room { vec_capacity parts.new.prints ≡ vec_capacity parts.old.prints }
+    requires { MayTurn P.Port shape at port.old }
+    ensures { MakesTurn P.Port (λ m. join m (int m register) site)
+        at parts.old result.at parts.new result.found port.old port.new }
 {
     let number = parts.int(at, register);
     if number < 0 || number >= i64::from(THREADS) {
         return local(trapped(at, parts, Trap::NoSuchThread, site));
     }
     let found = ask(port, step_of(state_word(number as u32), WordOp::Load));
-    let at = joined(at, parts, site, found);
-    Done { at, found }
+    after_step(joined(at, parts, site, found), found)
 }
 
 /// Prints this integer register.
@@ -304,23 +289,15 @@ pub(crate) fn print<P: Port>(
     port: &mut P,
     register: u32,
 ) -> Done
-    requires shape { IsShape shape }
-    requires place { at.pc + 1 < 2 ^ 64 }
+    requires may { MayTurn P.Port shape at port.old }
     requires room { vec_len parts.old.prints < vec_capacity parts.old.prints }
-    requires words { P.count port.old ≡ words_of shape }
-    ensures turn { Makes (P.serves port.old) P.leads (Asks (step_of prints_word (ops.Add 1))
-        (printed (machine_of at parts.old) (int (machine_of at parts.old) register))) parts.old.number
-        (machine_of result.at parts.new) result.found (P.place port.old) (P.place port.new) }
-    ensures port { KeepsPort P.count P.name P.serves port.old port.new }
-    ensures room { vec_capacity parts.new.prints ≡ vec_capacity parts.old.prints }
+    ensures { MakesTurn P.Port (λ m. Asks (step_of prints_word (ops.Add 1)) (printed m (int m register)))
+        at parts.old result.at parts.new result.found port.old port.new }
 {
     let value = parts.int(at, register);
     let found = ask(port, step_of(PRINTS, WordOp::Add(1)));
     parts.print(found, value);
-    Done {
-        at: next(at),
-        found,
-    }
+    after_step(next(at), found)
 }
 
 /// The beginning of a thread: a call of its function with its argument.
@@ -333,26 +310,20 @@ pub(crate) fn start<P: Port>(
     code: &Code,
     site: u32,
 ) -> Done
-    requires shape { IsShape shape }
-    requires place { at.pc + 1 < 2 ^ 64 }
+    requires may { MayTurn P.Port shape at port.old }
     requires within { IsWithin shape (rest_of parts.old).own }
-    requires words { P.count port.old ≡ words_of shape }
-    ensures turn { Makes (P.serves port.old) P.leads (start code.now (machine_of at parts.old) site parts.old.stage)
-        parts.old.number (machine_of result.at parts.new) result.found (P.place port.old) (P.place port.new) }
-    ensures port { KeepsPort P.count P.name P.serves port.old port.new }
-    ensures room { vec_capacity parts.new.prints ≡ vec_capacity parts.old.prints }
+    ensures { MakesTurn P.Port (λ m. start code.now m site parts.old.stage)
+        at parts.old result.at parts.new result.found port.old port.new }
 {
     match parts.stage {
         Stage::Enters(function) => {
             let found = ask(port, step_of(argument_word(parts.number), WordOp::Load));
-            let at = entered(code, at, parts, function, site, found);
-            Done { at, found }
+            after_step(entered(code, at, parts, function, site, found), found)
         }
         _ => {
             let found = ask(port, step_of(function_word(parts.number), WordOp::Load));
             let function = function_at(code, found);
-            let at = at_stage(at, parts, Stage::Enters(function));
-            Done { at, found }
+            after_step(at_stage(at, parts, Stage::Enters(function)), found)
         }
     }
 }
@@ -360,37 +331,29 @@ pub(crate) fn start<P: Port>(
 /// The end of a thread.
 #[inline(always)]
 pub(crate) fn exit<P: Port>(shape: Shape, at: At, parts: &mut ThreadParts, port: &mut P) -> Done
-    requires shape { IsShape shape }
-    requires within { IsWithin shape (rest_of parts.old).own }
-    requires words { P.count port.old ≡ words_of shape }
-    ensures turn { Makes (P.serves port.old) P.leads (exit shape (machine_of at parts.old) parts.old.stage)
-        parts.old.number (machine_of result.at parts.new) result.found (P.place port.old) (P.place port.new) }
-    ensures port { KeepsPort P.count P.name P.serves port.old port.new }
-    ensures room { vec_capacity parts.new.prints ≡ vec_capacity parts.old.prints }
+    requires shape { AreOfShape P.Port shape parts.old port.old }
+    ensures { MakesTurn P.Port (λ m. exit shape m parts.old.stage)
+        at parts.old result.at parts.new result.found port.old port.new }
 {
     match parts.stage {
         Stage::Withdraws(row) => {
             let word = shape.shadow_word(u64::from(row_of(parts, row)));
             let found = ask(port, step_of(word, WordOp::Load));
-            let at = at_stage(at, parts, Stage::WithdrawsFrom(row, found));
-            Done { at, found }
+            after_step(at_stage(at, parts, Stage::WithdrawsFrom(row, found)), found)
         }
         Stage::WithdrawsFrom(row, seen) => {
             let word = shape.shadow_word(u64::from(row_of(parts, row)));
             let without = without_own(shape, at, parts, row, seen);
             let found = ask(port, step_of(word, WordOp::Cas(seen, without)));
-            let at = withdrew(at, parts, row, seen, found);
-            Done { at, found }
+            after_step(withdrew(at, parts, row, seen, found), found)
         }
         Stage::Leaves => {
             let found = ask(port, step_of(state_word(parts.number), WordOp::Swap(3)));
-            let at = leaves(at, parts);
-            Done { at, found }
+            after_step(leaves(at, parts), found)
         }
         _ => {
             let found = ask(port, step_of(state_word(parts.number), WordOp::Swap(2)));
-            let at = withdraws(at, parts, 0);
-            Done { at, found }
+            after_step(withdraws(at, parts, 0), found)
         }
     }
 }
@@ -403,13 +366,9 @@ pub(crate) fn leave<P: Port>(
     parts: &mut ThreadParts,
     port: &mut P,
 ) -> u64
-    requires shape { IsShape shape }
-    requires within { IsWithin shape (rest_of parts.old).own }
-    requires words { P.count port.old ≡ words_of shape }
-    ensures turn { Makes (P.serves port.old) P.leads (exit shape (machine_of at.old parts.old) parts.old.stage)
-        parts.old.number (machine_of at.new parts.new) result (P.place port.old) (P.place port.new) }
-    ensures port { KeepsPort P.count P.name P.serves port.old port.new }
-    ensures room { vec_capacity parts.new.prints ≡ vec_capacity parts.old.prints }
+    requires shape { AreOfShape P.Port shape parts.old port.old }
+    ensures { MakesTurn P.Port (λ m. exit shape m parts.old.stage)
+        at.old parts.old at.new parts.new result port.old port.new }
 {
     settle(exit(shape, *at, parts, port), at)
 }

@@ -17,7 +17,7 @@ use crate::expressions::{access_of, bank, expression, guard_of, place};
 use crate::lookups::element_cells;
 use crate::operations::{bank_of, drop_value, narrow, truth, zero};
 use crate::patch::{Hole, fill, line_at, skip, skip_if_zero};
-use crate::places::{emit, store};
+use crate::places::{Emitted, emit, store};
 use crate::registers::{Bank, Registers};
 use crate::scope::{end_block, free, leave, slot_of};
 use crate::source::PlacedProgram;
@@ -51,7 +51,7 @@ fn elements(
     at: Registers,
     count: &Option<Expr>,
     lines: &mut Vec<Op>,
-) -> Result<(), AllocError>
+) -> Emitted
     ensures { OnOk result (lines.new.items ≡ lines.old.items
         ++ elements_code (context source.now scope.now) at.int at.reference (view_option view_expr count.now)) }
 {
@@ -70,7 +70,7 @@ fn right(
     mode: Sharing<'_>,
     right: &Right,
     lines: &mut Vec<Op>,
-) -> Result<(), AllocError>
+) -> Emitted
     ensures { OnOk result (lines.new.items ≡ lines.old.items ++ right_code (context source.now scope.now) at.int
         at.reference (view_kind kind.entry) (view_sharing mode.entry) (view_right right.now)) }
 {
@@ -97,7 +97,7 @@ fn assign(
     to: &Expr,
     value: &Right,
     lines: &mut Vec<Op>,
-) -> Result<(), AllocError>
+) -> Emitted
     ensures { OnOk result (lines.new.items ≡ lines.old.items
         ++ assign_code (context source.now scope.now) at.int at.reference (view_expr to.now) (view_right value.now)) }
 {
@@ -118,7 +118,7 @@ fn simple(
     scope: &[Slot],
     simple: &Simple,
     lines: &mut Vec<Op>,
-) -> Result<(), AllocError>
+) -> Emitted
     ensures { OnOk result (lines.new.items
         ≡ lines.old.items ++ simple_at (context source.now scope.now) (view_simple simple.now)) }
 {
@@ -139,7 +139,7 @@ fn initial(
     declaration: &Declaration,
     value: &Option<Right>,
     lines: &mut Vec<Op>,
-) -> Result<(), AllocError>
+) -> Emitted
     ensures { OnOk result (lines.new.items ≡ lines.old.items
         ++ initial_code (context source.now scope.now) declaration.now (view_option view_right value.now)) }
 {
@@ -201,7 +201,7 @@ fn local(
     slots: &mut Vec<Slot>,
     local: &Local,
     lines: &mut Vec<Op>,
-) -> Result<(), AllocError>
+) -> Emitted
     ensures code { OnOk result (lines.new.items
         ≡ lines.old.items ++ local_code (context source.now slots.old.items) (view_local local.now)) }
     ensures slots { OnOk result (slots.new.items ≡ slots.old.items ++ slot_of local.now.declaration ∷ []) }
@@ -219,7 +219,7 @@ fn first(
     slots: &mut Vec<Slot>,
     first: &ForFirst,
     lines: &mut Vec<Op>,
-) -> Result<(), AllocError>
+) -> Emitted
     ensures code { OnOk result (lines.new.items
         ≡ lines.old.items ++ first_code (context source.now slots.old.items) (view_first first.now)) }
     ensures slots { OnOk result (slots.new.items
@@ -240,7 +240,7 @@ fn step(
     scope: &[Slot],
     step: Option<&Simple>,
     lines: &mut Vec<Op>,
-) -> Result<(), AllocError>
+) -> Emitted
     ensures { OnOk result (lines.new.items ≡ lines.old.items
         ++ step_code (context source.now scope.now) (option_map (λ x. view_simple x.now) step.entry)) }
 {
@@ -279,7 +279,7 @@ fn jump(
     around: Around<'_>,
     jump: Jump,
     lines: &mut Vec<Op>,
-) -> Result<(), AllocError>
+) -> Emitted
     ensures { OnOk result (lines.new.items
         ≡ lines.old.items ++ jump_code (context source.now scope.now) (around_of around.entry marks.now) jump) }
 {
@@ -291,7 +291,7 @@ fn jump(
 }
 
 /// A value goes to the first register of the frame.
-fn give(bank: Bank, at: Registers, lines: &mut Vec<Op>) -> Result<(), AllocError>
+fn give(bank: Bank, at: Registers, lines: &mut Vec<Op>) -> Emitted
     ensures { OnOk result (lines.new.items
         ≡ lines.old.items ++ result_code (holds_references bank) at.int at.reference) }
 {
@@ -310,7 +310,7 @@ fn returned(
     site: Site,
     value: &Option<Box<Expr>>,
     lines: &mut Vec<Op>,
-) -> Result<(), AllocError>
+) -> Emitted
     requires { around.outer ≤ length marks.now }
     ensures { OnOk result (lines.new.items ≡ lines.old.items ++ return_code (context source.now scope.now)
         (around_of around.entry marks.now) site (view_option (λ b. view_expr b.value) value.now)) }
@@ -360,7 +360,7 @@ fn inner(
     around: Around<'_>,
     stmt: &Stmt,
     lines: &mut Vec<Op>,
-) -> Result<(), AllocError>
+) -> Emitted
     requires { around.outer ≤ vec_len marks.old }
     ensures code { OnOk result (lines.new.items ≡ lines.old.items ++ statement_code (context source.now slots.old.items)
         (around_of around.entry marks.old.items) (length lines.old.items) (view_stmt stmt.now)) }
@@ -382,7 +382,7 @@ pub fn statements(
     around: Around<'_>,
     all: &[Stmt],
     lines: &mut Vec<Op>,
-) -> Result<(), AllocError>
+) -> Emitted
     requires { around.outer ≤ vec_len marks.old }
     ensures code { OnOk result (lines.new.items
         ≡ lines.old.items ++ statements_code (context source.now slots.old.items)
@@ -406,7 +406,7 @@ fn block(
     around: Around<'_>,
     all: &[Stmt],
     lines: &mut Vec<Op>,
-) -> Result<(), AllocError>
+) -> Emitted
     requires { around.outer ≤ vec_len marks.old }
     ensures code { OnOk result (lines.new.items ≡ lines.old.items ++ block_code (context source.now slots.old.items)
         (around_of around.entry marks.old.items) (length lines.old.items) (view_statements all.now)) }
@@ -433,7 +433,7 @@ fn choice(
     then: &Stmt,
     test: &Expr,
     lines: &mut Vec<Op>,
-) -> Result<(), AllocError>
+) -> Emitted
     requires { around.outer ≤ vec_len marks.old }
     ensures code { OnOk result (lines.new.items ≡ lines.old.items ++ if_in (context source.now slots.old.items)
         (around_of around.entry marks.old.items) (length lines.old.items) (view_expr test.now) (view_stmt then.now)) }
@@ -464,7 +464,7 @@ fn decision(
 }
 
 /// The end of a loop: back to what decides, and the way out leads after it.
-fn finish(head: usize, hole: Option<Hole>, lines: &mut Vec<Op>) -> Result<(), AllocError>
+fn finish(head: usize, hole: Option<Hole>, lines: &mut Vec<Op>) -> Emitted
     requires head { head + 2 < vec_len lines.old }
     requires hole { ForSome hole (λ h. h.line < vec_len lines.old) }
     ensures { OnOk result (lines.new.items ≡ finished head hole lines.old.items) }
@@ -486,7 +486,7 @@ fn turns(
     after: Option<&Simple>,
     body: &Stmt,
     lines: &mut Vec<Op>,
-) -> Result<(), AllocError>
+) -> Emitted
     requires { around.outer ≤ vec_len marks.old }
     ensures code { OnOk result (lines.new.items ≡ lines.old.items ++ loop_in (context source.now slots.old.items)
         (around_of around.entry marks.old.items) (length lines.old.items) (option_map (λ e. view_expr e.now) test.entry)
@@ -521,7 +521,7 @@ fn counted(
     head: &ForHead,
     body: &Stmt,
     lines: &mut Vec<Op>,
-) -> Result<(), AllocError>
+) -> Emitted
     requires { around.outer ≤ vec_len marks.old }
     ensures code { OnOk result (lines.new.items ≡ lines.old.items ++ for_in (context source.now slots.old.items)
         (around_of around.entry marks.old.items) (length lines.old.items) (view_head head.now) (view_stmt body.now)) }
@@ -558,7 +558,7 @@ fn statement(
     around: Around<'_>,
     stmt: &Stmt,
     lines: &mut Vec<Op>,
-) -> Result<(), AllocError>
+) -> Emitted
     requires { around.outer ≤ vec_len marks.old }
     ensures code { OnOk result (lines.new.items ≡ lines.old.items ++ statement_code (context source.now slots.old.items)
         (around_of around.entry marks.old.items) (length lines.old.items) (view_stmt stmt.now)) }

@@ -21,7 +21,7 @@ use crate::operations::{
     operator_of, spawned, truth, width_of,
 };
 use crate::patch::{Hole, skip_if_zero};
-use crate::places::{Bound, Taking, emit, index_bounds, pointee, take, value};
+use crate::places::{Bound, Emitted, Taking, emit, index_bounds, pointee, take, value};
 use crate::registers::{Bank, Registers};
 use crate::source::PlacedProgram;
 use crate::spots::{SpotAccess, at_site, at_words, beside_field, cell_of, object_spot, tokens_in};
@@ -86,7 +86,7 @@ fn lvalue(
     at: Registers,
     expr: &Expr,
     lines: &mut Vec<Op>,
-) -> Result<(), AllocError>
+) -> Emitted
     ensures { OnOk result (lines.new.items
         ≡ lines.old.items ++ lvalue_code (context source.now scope.now) at.int at.reference (view_expr expr.now)) }
 {
@@ -108,7 +108,7 @@ fn name(
     expr: &Expr,
     name: &Identifier,
     lines: &mut Vec<Op>,
-) -> Result<(), AllocError>
+) -> Emitted
     ensures { OnOk result (lines.new.items ≡ lines.old.items ++ named_code (context source.now scope.now) at.int
         at.reference name.now.site (lvalue_of source.now.m.now.typed (view_expr expr.now))
         (cell_at source.now.m.now (view_expr expr.now)) (is_ref (context source.now scope.now) (view_expr expr.now))
@@ -132,12 +132,7 @@ fn name(
 }
 
 /// An argument for the first of these parameters.
-fn passed(
-    register: u32,
-    parameters: &[Declaration],
-    site: Site,
-    lines: &mut Vec<Op>,
-) -> Result<(), AllocError>
+fn passed(register: u32, parameters: &[Declaration], site: Site, lines: &mut Vec<Op>) -> Emitted
     ensures { OnOk result (lines.new.items
         ≡ lines.old.items ++ passed_code register (declared_kinds parameters.now) site) }
 {
@@ -165,7 +160,7 @@ fn spawn(
     of: &Identifier,
     argument: &Expr,
     lines: &mut Vec<Op>,
-) -> Result<(), AllocError>
+) -> Emitted
     ensures { OnOk result (lines.new.items ≡ lines.old.items ++ (passed_code at.int
         (declared_kinds (parameters_named source.now.m.now.typed (named_at source.now.m.now.typed of.now.site.token)))
         (span_of (view_expr argument.now)).first ++ spawn_code (is_ref (context source.now []) (view_expr argument.now))
@@ -189,7 +184,7 @@ fn lock(
     span: Span,
     place: &Expr,
     lines: &mut Vec<Op>,
-) -> Result<(), AllocError>
+) -> Emitted
     ensures { OnOk result (lines.new.items ≡ lines.old.items
         ++ place_call_code (context source.now []) at.int at.reference span PlaceCall.Lock (view_expr place.now) []) }
 {
@@ -208,7 +203,7 @@ fn unlock(
     span: Span,
     place: &Expr,
     lines: &mut Vec<Op>,
-) -> Result<(), AllocError>
+) -> Emitted
     ensures { OnOk result (lines.new.items ≡ lines.old.items
         ++ place_call_code (context source.now []) at.int at.reference span PlaceCall.Unlock (view_expr place.now) []) }
 {
@@ -234,7 +229,7 @@ fn free(
     span: Span,
     place: &Expr,
     lines: &mut Vec<Op>,
-) -> Result<(), AllocError>
+) -> Emitted
     ensures { OnOk result (lines.new.items ≡ lines.old.items ++ place_call_code
         (context source.now scope.now) at.int at.reference span PlaceCall.Free (view_expr place.now) []) }
 {
@@ -267,7 +262,7 @@ fn on_place(
     call: PlaceCall,
     place: &Expr,
     lines: &mut Vec<Op>,
-) -> Result<(), AllocError>
+) -> Emitted
     ensures { OnOk result (lines.new.items ≡ lines.old.items
         ++ place_call_code (context source.now scope.now) at.int at.reference span call (view_expr place.now) []) }
 {
@@ -286,7 +281,7 @@ fn cast(
     span: Span,
     place: &Expr,
     lines: &mut Vec<Op>,
-) -> Result<(), AllocError>
+) -> Emitted
     ensures { OnOk result (lines.new.items ≡ lines.old.items
         ++ cast_code (context source.now scope.now) at.int at.reference span (view_expr place.now) []) }
 {
@@ -312,7 +307,7 @@ fn unary(
     operator: UnaryOperator,
     operand: &Expr,
     lines: &mut Vec<Op>,
-) -> Result<(), AllocError>
+) -> Emitted
     requires { view_expr expr.now ≡ of_unary span operator (view_expr operand.now) }
     ensures { OnOk result (lines.new.items ≡ lines.old.items
         ++ unary_code (context source.now scope.now) at.int at.reference span operator (view_expr operand.now) []) }
@@ -352,7 +347,7 @@ fn computed(
     width: Width,
     bank: Bank,
     lines: &mut Vec<Op>,
-) -> Result<(), AllocError>
+) -> Emitted
     ensures { OnOk result (lines.new.items
         ≡ lines.old.items ++ (if holds_references bank then compare_code operator at.int at.reference
         else Op.Compute width (operator_of operator) at.int at.int (at.int + 1) (at_site site) ∷ [])) }
@@ -393,7 +388,7 @@ fn element(
     guard: Option<u32>,
     base: &Expr,
     lines: &mut Vec<Op>,
-) -> Result<(), AllocError>
+) -> Emitted
     ensures { OnOk result (lines.new.items ≡ lines.old.items
         ++ element_code (context source.now []) at.int at.reference site of guard (view_expr base.now)) }
 {
@@ -420,7 +415,7 @@ pub fn expression(
     at: Registers,
     expr: &Expr,
     lines: &mut Vec<Op>,
-) -> Result<(), AllocError>
+) -> Emitted
     ensures { OnOk result (lines.new.items
         ≡ lines.old.items ++ expression_code (context source.now scope.now) at.int at.reference (view_expr expr.now)) }
 {
@@ -472,7 +467,7 @@ fn operation(
     at: Registers,
     expr: &Expr,
     lines: &mut Vec<Op>,
-) -> Result<(), AllocError>
+) -> Emitted
     ensures { OnOk result (lines.new.items
         ≡ lines.old.items ++ operation_code (context source.now scope.now) at.int at.reference (view_expr expr.now)) }
 {
@@ -525,7 +520,7 @@ fn binary(
     right: &Expr,
     left: &Expr,
     lines: &mut Vec<Op>,
-) -> Result<(), AllocError>
+) -> Emitted
     requires { width ≡ width_of (binary_result (class_of operator) (kind_at source.now.m.now.typed (view_expr left.now))
         (kind_at source.now.m.now.typed (view_expr right.now))) }
     ensures { OnOk result (lines.new.items ≡ lines.old.items
@@ -560,7 +555,7 @@ fn decided(
     right: &Expr,
     more: usize,
     lines: &mut Vec<Op>,
-) -> Result<(), AllocError>
+) -> Emitted
     ensures { OnOk result (lines.new.items ≡ lines.old.items ++ decided_code at.int more
         (expression_code (context source.now scope.now) at.int at.reference (view_expr right.now)
         ++ truth_code (is_ref (context source.now []) (view_expr right.now)) at.int at.reference)) }
@@ -586,7 +581,7 @@ fn arguments(
     parameters: &[Declaration],
     arguments: &[Expr],
     lines: &mut Vec<Op>,
-) -> Result<(), AllocError>
+) -> Emitted
     ensures { OnOk result (lines.new.items ≡ lines.old.items ++ arguments_code (context source.now scope.now) at.int
         at.reference (declared_kinds parameters.now) (view_arguments arguments.now)) }
 {
@@ -617,7 +612,7 @@ pub fn place(
     guard: Option<u32>,
     expr: &Expr,
     lines: &mut Vec<Op>,
-) -> Result<(), AllocError>
+) -> Emitted
     ensures { OnOk result (lines.new.items ≡ lines.old.items
         ++ place_code (context source.now scope.now) at.int at.reference site of guard (view_expr expr.now)) }
 {
@@ -694,7 +689,7 @@ fn field(
     access: FieldOperator,
     name: &Identifier,
     lines: &mut Vec<Op>,
-) -> Result<(), AllocError>
+) -> Emitted
     ensures { OnOk result (lines.new.items
         ≡ lines.old.items ++ field_code (context source.now scope.now) at.reference site of access name.now
         (λ f. place_code (context source.now scope.now) at.int at.reference site f guard (view_expr base.now))

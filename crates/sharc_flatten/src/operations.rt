@@ -10,7 +10,7 @@ ghost use Rattle.sharc_flat.specs.Flattened.{first_cell_of, wait_code, with_word
 ghost use Rattle.sharc_flat.specs.{Flattened.{called_code, spawn_code, value_call_code}, Scope.{at_site, no_text}};
 ghost use Rattle.sharc_flatten.specs.View.{wait_begin, evaluation_of, holds_references};
 
-use crate::places::emit;
+use crate::places::{Emitted, emit};
 use crate::registers::{Bank, Registers};
 use crate::spots::{at_site, no_text, tokens_in};
 use sharc_code::{Cell, Operator, Register, Text, Width};
@@ -63,7 +63,7 @@ pub(crate) fn narrow(
     kind: ExpressionKind<'_>,
     site: Site,
     lines: &mut Vec<Op>,
-) -> Result<(), AllocError>
+) -> Emitted
     ensures { OnOk result (lines.new.items ≡ lines.old.items ++ width_code register (view_kind kind.entry) site) }
 {
     if is_integer(kind) {
@@ -90,7 +90,7 @@ pub(crate) fn constant(
     at: Registers,
     constant: Constant,
     lines: &mut Vec<Op>,
-) -> Result<(), AllocError>
+) -> Emitted
     ensures { OnOk result (lines.new.items
         ≡ lines.old.items ++ constant_code (holds_references bank) at.int at.reference constant) }
 {
@@ -101,7 +101,7 @@ pub(crate) fn constant(
 }
 
 /// 0 or NULL.
-pub(crate) fn zero(bank: Bank, at: Registers, lines: &mut Vec<Op>) -> Result<(), AllocError>
+pub(crate) fn zero(bank: Bank, at: Registers, lines: &mut Vec<Op>) -> Emitted
     ensures { OnOk result (lines.new.items ≡ lines.old.items ++ zero_code (holds_references bank) at.int at.reference) }
 {
     match bank {
@@ -111,7 +111,7 @@ pub(crate) fn zero(bank: Bank, at: Registers, lines: &mut Vec<Op>) -> Result<(),
 }
 
 /// A value that is not used ends.
-pub(crate) fn drop_value(bank: Bank, register: u32, lines: &mut Vec<Op>) -> Result<(), AllocError>
+pub(crate) fn drop_value(bank: Bank, register: u32, lines: &mut Vec<Op>) -> Emitted
     ensures { OnOk result (lines.new.items ≡ lines.old.items ++ drop_code (holds_references bank) register) }
 {
     match bank {
@@ -121,7 +121,7 @@ pub(crate) fn drop_value(bank: Bank, register: u32, lines: &mut Vec<Op>) -> Resu
 }
 
 /// A value becomes an integer that is 0 exactly where it was 0 or NULL.
-pub(crate) fn truth(bank: Bank, at: Registers, lines: &mut Vec<Op>) -> Result<(), AllocError>
+pub(crate) fn truth(bank: Bank, at: Registers, lines: &mut Vec<Op>) -> Emitted
     ensures { OnOk result (lines.new.items
         ≡ lines.old.items ++ truth_code (holds_references bank) at.int at.reference) }
 {
@@ -182,7 +182,7 @@ pub(crate) fn evaluation_of(operator: BinaryOperator) -> Evaluation
     }
 }
 
-fn differ(operator: BinaryOperator, register: u32, lines: &mut Vec<Op>) -> Result<(), AllocError>
+fn differ(operator: BinaryOperator, register: u32, lines: &mut Vec<Op>) -> Emitted
     ensures { OnOk result (lines.new.items ≡ lines.old.items ++ differ_code operator register) }
 {
     match operator {
@@ -192,11 +192,7 @@ fn differ(operator: BinaryOperator, register: u32, lines: &mut Vec<Op>) -> Resul
 }
 
 /// Two references are compared and given up.
-pub(crate) fn compare(
-    operator: BinaryOperator,
-    at: Registers,
-    lines: &mut Vec<Op>,
-) -> Result<(), AllocError>
+pub(crate) fn compare(operator: BinaryOperator, at: Registers, lines: &mut Vec<Op>) -> Emitted
     ensures { OnOk result (lines.new.items ≡ lines.old.items ++ compare_code operator at.int at.reference) }
 {
     let other = at.reference + 1;
@@ -235,7 +231,7 @@ fn with_words(spot: Spot, words: Text) -> Spot
 }
 
 /// What `wait` does before the thread waits.
-fn wait_begins(register: u32, spot: Spot, lines: &mut Vec<Op>) -> Result<(), AllocError>
+fn wait_begins(register: u32, spot: Spot, lines: &mut Vec<Op>) -> Emitted
     requires { register < 2 ^ 31 }
     ensures { OnOk result (lines.new.items ≡ lines.old.items ++ wait_begin register spot) }
 {
@@ -249,12 +245,7 @@ fn wait_begins(register: u32, spot: Spot, lines: &mut Vec<Op>) -> Result<(), All
 }
 
 /// `wait`
-fn wait(
-    register: u32,
-    spot: Spot,
-    arguments: &[Expr],
-    lines: &mut Vec<Op>,
-) -> Result<(), AllocError>
+fn wait(register: u32, spot: Spot, arguments: &[Expr], lines: &mut Vec<Op>) -> Emitted
     requires { register < 2 ^ 31 }
     ensures { OnOk result (lines.new.items
         ≡ lines.old.items ++ wait_code register spot (with_words spot (argument_words 0 (view_arguments arguments.now)))
@@ -275,7 +266,7 @@ fn condition(
     name: &[u8],
     arguments: &[Expr],
     lines: &mut Vec<Op>,
-) -> Result<(), AllocError>
+) -> Emitted
     requires { register < 2 ^ 31 }
     ensures { OnOk result (lines.new.items
         ≡ lines.old.items ++ condition_code register spot name.now (view_arguments arguments.now)) }
@@ -301,7 +292,7 @@ pub(crate) fn called(
     of: &Identifier,
     arguments: &[Expr],
     lines: &mut Vec<Op>,
-) -> Result<(), AllocError>
+) -> Emitted
     ensures { OnOk result (lines.new.items
         ≡ lines.old.items ++ called_code at.int at.reference spot named of.now.text (view_arguments arguments.now)) }
 {
@@ -332,7 +323,7 @@ pub(crate) fn spawned(
     function: u32,
     site: Site,
     lines: &mut Vec<Op>,
-) -> Result<(), AllocError>
+) -> Emitted
     ensures { OnOk result (lines.new.items
         ≡ lines.old.items ++ spawn_code (holds_references bank) at.int at.reference function (at_site site)) }
 {
@@ -344,12 +335,7 @@ pub(crate) fn spawned(
 }
 
 /// `join` or `print`, after its argument.
-pub(crate) fn on_value(
-    call: ValueCall,
-    register: u32,
-    site: Site,
-    lines: &mut Vec<Op>,
-) -> Result<(), AllocError>
+pub(crate) fn on_value(call: ValueCall, register: u32, site: Site, lines: &mut Vec<Op>) -> Emitted
     ensures { OnOk result (lines.new.items ≡ lines.old.items ++ value_call_code call register (at_site site)) }
 {
     match call {

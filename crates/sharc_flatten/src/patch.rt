@@ -4,6 +4,7 @@ ghost use Rattle.std.specs.{Prelude.{◌≡◌, ◌+◌, ◌-◌, ◌<◌, lengt
 ghost use Rattle.sharc_flatten.specs.View.{with_hole};
 
 use crate::lookups::small;
+use crate::places::Emitted;
 use sharc_flat::Op;
 use std::alloc::AllocError;
 
@@ -33,7 +34,7 @@ fn over(lines: &[Op], line: usize, more: usize) -> Result<u32, AllocError>
 }
 
 /// The operation on this line leads over those after it, and this many more, where its register is 0.
-pub fn skip_if_zero(hole: Hole, more: usize, lines: &mut Vec<Op>) -> Result<(), AllocError>
+pub fn skip_if_zero(hole: Hole, more: usize, lines: &mut Vec<Op>) -> Emitted
     requires { hole.line < vec_len lines.old }
     ensures { OnOk result (lines.new.items ≡ slice_set lines.old.items hole.line
         (Op.SkipIfZero hole.register (length lines.old.items - hole.line - 1 + more))) }
@@ -44,7 +45,7 @@ pub fn skip_if_zero(hole: Hole, more: usize, lines: &mut Vec<Op>) -> Result<(), 
 }
 
 /// The operation on this line leads over those after it.
-pub fn skip(line: usize, lines: &mut Vec<Op>) -> Result<(), AllocError>
+pub fn skip(line: usize, lines: &mut Vec<Op>) -> Emitted
     requires { line < vec_len lines.old }
     ensures { OnOk result (lines.new.items
         ≡ slice_set lines.old.items line (Op.Skip (length lines.old.items - line - 1 + 0))) }
@@ -55,7 +56,7 @@ pub fn skip(line: usize, lines: &mut Vec<Op>) -> Result<(), AllocError>
 }
 
 /// The test of a loop, if there is one, leads over the lines after it and the way back.
-pub fn fill(hole: Option<Hole>, lines: &mut Vec<Op>) -> Result<(), AllocError>
+pub fn fill(hole: Option<Hole>, lines: &mut Vec<Op>) -> Emitted
     requires { ForSome hole (λ h. h.line < vec_len lines.old) }
     ensures { OnOk result (lines.new.items ≡ with_hole hole lines.old.items) }
 {

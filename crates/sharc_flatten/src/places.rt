@@ -21,8 +21,11 @@ use sharc_flat::{Op, Spot};
 use sharc_tree::token::Site;
 use std::alloc::AllocError;
 
+/// Whether the operations could be added: nothing but memory can be lacking.
+pub type Emitted = Result<(), AllocError>;
+
 /// One operation more.
-pub fn emit(op: Op, lines: &mut Vec<Op>) -> Result<(), AllocError>
+pub fn emit(op: Op, lines: &mut Vec<Op>) -> Emitted
     ensures { OnOk result (lines.new.items ≡ lines.old.items ++ op ∷ []) }
 {
     lines.push(op)?;
@@ -44,7 +47,7 @@ fn guard(
     at: Registers,
     access: SpotAccess<'_>,
     lines: &mut Vec<Op>,
-) -> Result<(), AllocError>
+) -> Emitted
     ensures { OnOk result (lines.new.items ≡ lines.old.items
         ++ guard_code (context source.now []) at.int at.reference access.entry.site access.entry.lvalue
         (view_target access.entry.target) (guard_field source.now.m.now.typed (view_sharing access.entry.mode))) }
@@ -59,7 +62,7 @@ fn guard(
 }
 
 /// The base is given up.
-fn drop_base(register: u32, target: Target, lines: &mut Vec<Op>) -> Result<(), AllocError>
+fn drop_base(register: u32, target: Target, lines: &mut Vec<Op>) -> Emitted
     ensures { OnOk result (lines.new.items ≡ lines.old.items ++ drop_base register (view_target target)) }
 {
     if target.has_base() {
@@ -70,7 +73,7 @@ fn drop_base(register: u32, target: Target, lines: &mut Vec<Op>) -> Result<(), A
 }
 
 /// The reference after the base takes its place.
-fn settle_base(at: Registers, target: Target, lines: &mut Vec<Op>) -> Result<(), AllocError>
+fn settle_base(at: Registers, target: Target, lines: &mut Vec<Op>) -> Emitted
     ensures { OnOk result (lines.new.items ≡ lines.old.items ++ settle_base at.reference (view_target target)) }
 {
     if target.has_base() {
@@ -81,7 +84,7 @@ fn settle_base(at: Registers, target: Target, lines: &mut Vec<Op>) -> Result<(),
 }
 
 /// The value of a variable.
-fn copy(at: Registers, register: Register, lines: &mut Vec<Op>) -> Result<(), AllocError>
+fn copy(at: Registers, register: Register, lines: &mut Vec<Op>) -> Emitted
     ensures { OnOk result (lines.new.items ≡ lines.old.items ++ copy_code at.int at.reference register) }
 {
     match register {
@@ -97,7 +100,7 @@ fn cell_value(
     access: SpotAccess<'_>,
     bank: Bank,
     lines: &mut Vec<Op>,
-) -> Result<(), AllocError>
+) -> Emitted
     ensures { OnOk result (lines.new.items ≡ lines.old.items
         ++ cell_value_code (context source.now scope.now) at.int at.reference access.entry.site access.entry.lvalue
         (view_sharing access.entry.mode) (holds_references bank) (view_target access.entry.target)) }
@@ -126,7 +129,7 @@ pub fn value(
     access: SpotAccess<'_>,
     bank: Bank,
     lines: &mut Vec<Op>,
-) -> Result<(), AllocError>
+) -> Emitted
     ensures { OnOk result (lines.new.items ≡ lines.old.items
         ++ value_code (context source.now scope.now) at.int at.reference access.entry.site access.entry.lvalue
         (view_sharing access.entry.mode) (holds_references bank) (view_target access.entry.target)) }
@@ -141,7 +144,7 @@ pub fn value(
 }
 
 /// A value in these registers goes to a variable.
-fn settle(from: Registers, register: Register, lines: &mut Vec<Op>) -> Result<(), AllocError>
+fn settle(from: Registers, register: Register, lines: &mut Vec<Op>) -> Emitted
     ensures { OnOk result (lines.new.items ≡ lines.old.items ++ settle_code from.int from.reference register) }
 {
     match register {
@@ -158,7 +161,7 @@ fn cell_store(
     access: SpotAccess<'_>,
     bank: Bank,
     lines: &mut Vec<Op>,
-) -> Result<(), AllocError>
+) -> Emitted
     ensures { OnOk result (lines.new.items ≡ lines.old.items ++ cell_store_code
         (context source.now scope.now) at.int at.reference from.int from.reference access.entry.site access.entry.lvalue
         (view_sharing access.entry.mode) (holds_references bank) (view_target access.entry.target)) }
@@ -182,7 +185,7 @@ pub fn store(
     access: SpotAccess<'_>,
     bank: Bank,
     lines: &mut Vec<Op>,
-) -> Result<(), AllocError>
+) -> Emitted
     ensures { OnOk result (lines.new.items ≡ lines.old.items ++ store_code
         (context source.now scope.now) at.int at.reference from.int from.reference access.entry.site access.entry.lvalue
         (view_sharing access.entry.mode) (holds_references bank) (view_target access.entry.target)) }
@@ -238,7 +241,7 @@ fn cell_take(
     access: SpotAccess<'_>,
     taking: Taking,
     lines: &mut Vec<Op>,
-) -> Result<(), AllocError>
+) -> Emitted
     ensures { OnOk result (lines.new.items ≡ lines.old.items
         ++ cell_take_code (context source.now scope.now) at.int at.reference access.entry.site access.entry.lvalue
         (view_sharing access.entry.mode) (use_of taking) (view_target access.entry.target)) }
@@ -259,7 +262,7 @@ pub fn take(
     access: SpotAccess<'_>,
     taking: Taking,
     lines: &mut Vec<Op>,
-) -> Result<(), AllocError>
+) -> Emitted
     ensures { OnOk result (lines.new.items ≡ lines.old.items
         ++ take_code (context source.now scope.now) at.int at.reference access.entry.site access.entry.lvalue
         (view_sharing access.entry.mode) (use_of taking) (view_target access.entry.target)) }
@@ -282,7 +285,7 @@ pub fn take(
 }
 
 /// A base that is NULL stops.
-pub fn pointee(register: u32, site: Site, lines: &mut Vec<Op>) -> Result<(), AllocError>
+pub fn pointee(register: u32, site: Site, lines: &mut Vec<Op>) -> Emitted
     ensures { OnOk result (lines.new.items ≡ lines.old.items ++ Op.ChkNull register (at_site site) ∷ []) }
 {
     emit(Op::ChkNull(register, at_site(site)), lines)
@@ -303,13 +306,7 @@ pub enum Bound {
     },
 }
 
-fn bounds(
-    bound: Bound,
-    register: u32,
-    field: u32,
-    site: Site,
-    lines: &mut Vec<Op>,
-) -> Result<(), AllocError>
+fn bounds(bound: Bound, register: u32, field: u32, site: Site, lines: &mut Vec<Op>) -> Emitted
     ensures { OnOk result (lines.new.items ≡ lines.old.items ++ bounds_by bound site register field ∷ []) }
 {
     let spot = at_site(site);
@@ -341,7 +338,7 @@ pub fn index_bounds(
     guard: Option<u32>,
     site: Site,
     lines: &mut Vec<Op>,
-) -> Result<(), AllocError>
+) -> Emitted
     ensures { OnOk result (lines.new.items ≡ lines.old.items ++ bounds_code (bounds_by bound site) at.int field guard) }
 {
     match guard {

@@ -5,6 +5,7 @@ ghost use Rattle.sharc_flat.specs.Scope.{slot_of, register_from, register_of, nu
 ghost use Rattle.sharc_flat.specs.Scope.{ends_from, leaves};
 ghost use Rattle.sharc_flatten.specs.View.{innermost};
 
+use crate::places::Emitted;
 use crate::registers::Registers;
 use sharc_code::Register;
 use sharc_flat::Op;
@@ -67,7 +68,7 @@ pub fn register_of(scope: &[Slot], token: u32) -> Result<Register, AllocError>
 }
 
 /// The pointers among these variables are given up; the first has this register.
-fn pops(scope: &[Slot], from: u32, lines: &mut Vec<Op>) -> Result<(), AllocError>
+fn pops(scope: &[Slot], from: u32, lines: &mut Vec<Op>) -> Emitted
     ensures { OnOk result (lines.new.items ≡ lines.old.items ++ pops from scope.now) }
 {
     let mut register = from;
@@ -112,7 +113,7 @@ fn inner(scope: &[Slot], began: usize) -> &[Slot]
 }
 
 /// Ends the variables after the first `began`.
-pub fn end_block(scope: &[Slot], began: usize, lines: &mut Vec<Op>) -> Result<(), AllocError>
+pub fn end_block(scope: &[Slot], began: usize, lines: &mut Vec<Op>) -> Emitted
     ensures { OnOk result (lines.new.items ≡ lines.old.items ++ ends_from scope.now began) }
 {
     let from = free(outer(scope, began))?.reference;
@@ -120,12 +121,7 @@ pub fn end_block(scope: &[Slot], began: usize, lines: &mut Vec<Op>) -> Result<()
 }
 
 /// Ends the blocks after the first `kept`, the innermost first.
-pub fn leave(
-    scope: &[Slot],
-    marks: &[usize],
-    kept: usize,
-    lines: &mut Vec<Op>,
-) -> Result<(), AllocError>
+pub fn leave(scope: &[Slot], marks: &[usize], kept: usize, lines: &mut Vec<Op>) -> Emitted
     ensures { OnOk result (lines.new.items ≡ lines.old.items ++ leaves scope.now (innermost kept marks.now)) }
 {
     let mut left = scope;

@@ -7,6 +7,7 @@ ghost use Rattle.sharc_flat.specs.Laid.{words_of, name_of, field_behind, beside_
 ghost use Rattle.sharc_flatten.specs.Places.{places_from, LiesIn, Grows};
 
 use crate::lookups::small;
+use crate::places::Emitted;
 use crate::tokens::{add_text, lay_tokens};
 use crate::told::{spot_in, with_texts};
 use sharc_code::{Function, PlaceMode, Text};
@@ -185,12 +186,7 @@ impl<'a> TokenTexts<'a> {
     }
 
     /// All lines with where their texts lie; their lock paths come to the end of the bytes.
-    pub fn lay(
-        &self,
-        alloc: Global,
-        lines: &mut Vec<Op>,
-        bytes: &mut Vec<u8>,
-    ) -> Result<(), AllocError>
+    pub fn lay(&self, alloc: Global, lines: &mut Vec<Op>, bytes: &mut Vec<u8>) -> Emitted
         requires { Grows (tokens_text self.now.t.now.program.tokens.list) bytes.old.items }
         ensures { OnOk result ((more : List ℕ)
             → AreLaid self.now.t.now (bytes.new.items ++ more) lines.old.items lines.new.items) }

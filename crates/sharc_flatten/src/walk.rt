@@ -6,7 +6,7 @@ ghost use Rattle.sharc_flat.specs.{Flattened.{function_code, parameters_scope}, 
 
 use crate::bodies::{Around, statements};
 use crate::operations::{bank_of, zero};
-use crate::places::emit;
+use crate::places::{Emitted, emit};
 use crate::registers::Registers;
 use crate::scope::{end_block, free, slot_of};
 use crate::source::PlacedProgram;
@@ -60,7 +60,7 @@ pub fn function_lines(
     walk: &mut ScopeStack,
     of: &FunctionDefinition,
     lines: &mut Vec<Op>,
-) -> Result<(), AllocError>
+) -> Emitted
     ensures { OnOk result (lines.new.items ≡ lines.old.items
         ++ function_code source.now.m.now source.now.globals.items (length lines.old.items) (view_function of.now)) }
 {

@@ -1,5 +1,5 @@
 -- No bit stands in the granules of an object that is given or freed.
-use Rattle.sharc_history_laws.proofs.{Imports.{◌≡◌, ℕ, zero, suc, ◌+◌, ◌*◌, ◌/◌, ◌^◌, ◌<◌, ◌≤◌, ◌≢◌, Bool, true, false, ◌&&◌, not, min, None, if◌then◌else◌, refl, sym, ap, ◌∙◌, subst, ⊎_elim, arith, cases_eq, nat_tests, slice_index, nat_lt, ◌==◌, Kind, Read, Write, ShadowLaws, stands, Code, Cell, Instr, Shape, Stage, Rests, Looks, Clears, Empties, Lowers, FreeLooks, FreeClears, Uncounts, Links, Fits, granules, first_shadow, granule_at, granule_of, length_word, Machine, instr_at, act, ref, place, at_stage, looks, clear, rests, free, free_looks, freed, empties, emptied, fields, layout_at, data_granules, data_granule, largest, step_of, wrote, ThreadLaws, check_of, begun, turn, after, may_go, asked_by, Turn, Global, MayTurn, after_turn, state_now, result_of, one_thread, bounds, WordOp, Touch, Untouched, CheckOf, ClearOf, WithdrawOf, cleared_by, freed_by, touch_of, Closing, Gate, Sole, Entry, Refers, Label, Labels, Leads, LessGate, LessEntry, gated, empty, CellsAreThere, PointersAreThere, StateStands, IsOn, touch_at, State, Runs, StageStands, GateStands, OnClear, OnFree, OnHold, granules_freed, object_of_cell, number_in, view_of, IsWellTyped, Fine, HasCell, Targets, StaticType, Field, cells_of, length_at, World, IsSole, not_below, yes}, TurnAt.turn_at, Onward.{IsUncleared, walks}, Arriving.{less_uncleared, is_clearing, Arrives, arriving}, Consists.found_is, Doing.{IsCheckAt, Does, Plain, Passes, Refuses, IsNoCheck, does}, Remaining.{word_at, Remains}, Shadows.{IsNext, WordBy, word_by, at_low, in_cells}, Shared.closing_own, Single.{single, rests_hold}, Stands.{there, gate, granules_low, reads_ref, sole_ref, live_ref, target_ref}, Tables.length_kept, Writes.writes, Carried.{put_same, put_other}, Finds.same_object}
+use Rattle.sharc_history_laws.proofs.{Imports.{◌≡◌, ℕ, zero, suc, ◌+◌, ◌*◌, ◌/◌, ◌^◌, ◌<◌, ◌≤◌, ◌≢◌, Bool, true, false, not, min, None, if◌then◌else◌, refl, sym, ap, ◌∙◌, subst, ⊎_elim, arith, cases_eq, nat_tests, slice_index, nat_lt, ◌==◌, Kind, ShadowLaws, stands, Code, Cell, Instr, Shape, Stage, Rests, Looks, Clears, Empties, Lowers, FreeLooks, FreeClears, Uncounts, Links, Fits, granules, first_shadow, granule_at, length_word, Machine, instr_at, act, ref, place, at_stage, looks, clear, rests, free, free_looks, freed, empties, emptied, fields, layout_at, data_granules, data_granule, largest, step_of, wrote, ThreadLaws, begun, turn, after, may_go, asked_by, Turn, Global, MayTurn, after_turn, state_now, result_of, one_thread, bounds, WordOp, Touch, Untouched, CheckOf, ClearOf, WithdrawOf, cleared_by, freed_by, touch_of, Closing, Gate, Sole, Entry, Refers, Label, Labels, Leads, LessGate, LessEntry, gated, empty, CellsAreThere, PointersAreThere, StateStands, IsOn, touch_at, State, Runs, StageStands, GateStands, OnClear, OnFree, OnHold, granules_freed, object_of_cell, view_of, IsWellTyped, Fine, Targets, StaticType, cells_of, length_at, World, IsSole, not_below, yes, and_no}, TurnAt.turn_at, Onward.{IsUncleared, walks}, Arriving.{less_uncleared, is_clearing, Arrives, arriving}, Consists.found_is, Doing.{IsCheckAt, Does, Plain, Passes, Refuses, IsNoCheck, does}, Remaining.{word_at, Remains, checked_granule}, Shadows.{IsNext, WordBy, word_by, at_low, in_cells}, Shared.closing_own, Single.rests_hold, Stands.{gate, granules_low, reads_ref, sole_ref, live_ref, target_ref}, Tables.length_kept, Writes.writes, Carried.{put_same, put_other}, Finds.same_object}
 
 -- ---- what is said of a thread that clears an object or gives it
 -- no bit stands in the first granules of an object
@@ -125,42 +125,15 @@ module _ (turns : ThreadLaws) (laws : ShadowLaws) (state_law : StateStands) (cel
     check_own : (kind : Kind) (j : ℕ) (ok : Bool) → 2 * j < st.cells o → touch ≡ CheckOf kind (o + 1 + j) ok → tr.thread ≡ u
     check_own kind j ok inside q = by (does turns.outcomes code s g tr may fresh)
       where
-        granule : (k kind : Kind) (a p : ℕ) (b ok : Bool) → CheckOf k a b ≡ CheckOf kind p ok → a ≡ p
-        granule k kind a p b ok e = cc
-
         of_check : (k : Kind) (a site : ℕ) → IsCheckAt s (g.threads tr.thread) i k a site → a ≡ o + 1 + j → tr.thread ≡ u
         of_check k a site at e =
-            let c = at.cell in
-            let f = fine_check k c site at.is in
-            let hold = hold_check k c site at.is in
-            let th = there x code s ls wt fits g world st t on hold cell_laws c f.0 f.1 in
-            let p = object_of_cell m c in
-            let n = number_in m c in
-            let lt = th.number in
-            let inside' : 2 * (n / 2) < st.cells p = omega (arith, lt) in
-            let w = st.apart.within p (n / 2) th.live inside' in
-            let half : granule_of (place m c) ≡ p + 1 + n / 2 = halves (place m c) p n th.place_is in
-            let q : p + 1 + n / 2 ≡ o + 1 + j = sym (at.granule ∙ ap (granule_at s) half ∙ at_low s (p + 1 + n / 2) w) ∙ e in
-            by_cell c hold (object_one p o (n / 2) j th.live live inside' inside q)
-          where
-            halves : (p o n : ℕ) → p ≡ 2 * (o + 1) + n → p / 2 ≡ o + 1 + n / 2
-            halves p o n e = omega arith
-
-            fine_check : (kind : Kind) (c : Cell) (site : ℕ) → i ≡ check_of kind c site → (f : Field) × HasCell x code (ls.at (g.threads tr.thread).at.pc) c f
-            fine_check Read c site is = let f = fine_at t (Instr.ChkRead c site) is in (f.1.0, f.1.1)
-            fine_check Write c site is = let f = fine_at t (Instr.ChkWrite c site) is in (f.1.0, f.1.1)
-
-            single_check : (kind : Kind) (c : Cell) (site : ℕ) → single (check_of kind c site) ≡ true
-            single_check Read c site = refl
-            single_check Write c site = refl
-
-            hold_check : (kind : Kind) (c : Cell) (site : ℕ) → i ≡ check_of kind c site → OnHold (g.threads tr.thread).own.stage
-            hold_check kind c site is = rests_hold code s st.elements world st.heap g.words t m (check_of kind c site) m.own.stage (single_check kind c site) (stage_at t on (check_of kind c site) is)
+            let c = checked_granule turns laws cell_laws x code s ls wt fits g world st tr may fresh remains k a site at in
+            by_cell c.cell c.hold (sym c.object_is ∙ object_one c.object o c.index j c.live live c.inside inside (sym c.is ∙ e))
 
         by : Does s (λ q. slice_index g.words (first_shadow + q)) m i touch m' → tr.thread ≡ u
         by (Plain a b c) = absurd (subst IsNoCheck q a)
-        by (Passes k a site at b c d) = of_check k a site at (granule k kind a (o + 1 + j) true ok (sym b ∙ q))
-        by (Refuses k a site at b c d) = of_check k a site at (granule k kind a (o + 1 + j) false ok (sym b ∙ q))
+        by (Passes k a site at b c d) = of_check k a site at (let e : a ≡ o + 1 + j = cc in e)
+        by (Refuses k a site at b c d) = of_check k a site at (let e : a ≡ o + 1 + j = cc in e)
 
     -- what another thread's turn leaves
     bits_kept : (n : ℕ) → (tr.thread ≡ u → ⊥) → ((j : ℕ) → j < n → 2 * j < st.cells o) → NoBits g o n → NoBits g' o n
@@ -172,10 +145,6 @@ module _ (turns : ThreadLaws) (laws : ShadowLaws) (state_law : StateStands) (cel
         same : word_at g' (o + 1 + j) ≡ word_at g (o + 1 + j) → stands (word_at g' (o + 1 + j)) k ≡ false
         same e = ap (λ v. stands v k) e ∙ old
 
-        and_no : (b : Bool) → b ≡ false → (c : Bool) → (b && c) ≡ false
-        and_no true e c = absurd (yes e)
-        and_no false e c = refl
-
         by : (y : Touch) → touch ≡ y → WordBy y tr.thread (o + 1 + j) (word_at g (o + 1 + j)) (word_at g' (o + 1 + j)) (wrote (g.threads tr.thread) (o + 1 + j) (word_at g (o + 1 + j))) → stands (word_at g' (o + 1 + j)) k ≡ false
         by Untouched q w = same w
         by (CheckOf kind p ok) q w = ⊎_elim
@@ -183,7 +152,7 @@ module _ (turns : ThreadLaws) (laws : ShadowLaws) (state_law : StateStands) (cel
             (λ d. same (w.1 d))
             (cases_eq (o + 1 + j) p)
         by (ClearOf p) q w = ⊎_elim (λ (e : o + 1 + j ≡ p). (w.0 e).threads k) (λ d. same (w.1 d)) (cases_eq (o + 1 + j) p)
-        by (WithdrawOf p) q w = ⊎_elim (λ (e : o + 1 + j ≡ p). (w.0 e).threads k ∙ and_no (stands (word_at g (o + 1 + j)) k) old (not (k == t))) (λ d. same (w.1 d)) (cases_eq (o + 1 + j) p)
+        by (WithdrawOf p) q w = ⊎_elim (λ (e : o + 1 + j ≡ p). (w.0 e).threads k ∙ and_no (stands (word_at g (o + 1 + j)) k) (not (k == t)) old) (λ d. same (w.1 d)) (cases_eq (o + 1 + j) p)
 
     length_still : length_of s g' o ≡ length_of s g o
     length_still = length_kept x code s ls g world st t o some live tr.event (turn code s m) may.next.asks (writes cell_laws pointer_laws x code s ls wt fits g world st t on)

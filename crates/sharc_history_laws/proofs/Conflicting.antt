@@ -1,5 +1,5 @@
 -- A refused check of an access comes from checks that others made, in a run of typed code.
-use Rattle.sharc_history_laws.proofs.{Imports.{◌≡◌, ℕ, ◌+◌, ◌<◌, inl, inr, Bool, true, false, List, [], ◌∷◌, Option, Some, None, is_some, nat_lt, if◌then◌else◌, refl, sym, ap, ◌∙◌, subst, ⊎_elim, arith, cases_eq, nat_tests, slice_index, ◌==◌, Kind, Read, Write, epoch_of, stands, bits_of, WordOp, Code, Cell, Instr, Shape, ConflictAt, Stage, Clears, FreeClears, WithdrawsFrom, Stop, Conflict, Fits, granules, granule_at, granule_of, shadow_word, Machine, instr_at, act, place, word, ref, step_of, opening_words, TurnsComeOut, MayStop, check_of, turn, after, may_go, asked_by, Turn, IsRun, MayTurn, after_turn, put, state_now, result_of, opening_of, one_thread, bounds, place_after, Targets, Labels, IsWellTyped, IsSmall, first_place, Touch, Untouched, CheckOf, ClearOf, WithdrawOf, Marks, cleared_by, freed_by, withdrawn_by, touch_of, with_check, without_thread, marks_by, marks_after, RunsConflict, CheckStands, touch_at, RunsBits, site_of_check, Past, MadeSince, Opposes, ShowsConflict, yes, is_below}, TurnAt.{turn_at, RunOf}, Consists.found_is, Outcomes.reports, Sole.{Halting, stop_none}, Doing.granule_low, Carried.{put_same, put_other}}
+use Rattle.sharc_history_laws.proofs.{Imports.{◌≡◌, ℕ, ◌+◌, inl, inr, Bool, true, false, List, [], ◌∷◌, Option, Some, None, is_some, nat_lt, if◌then◌else◌, refl, sym, ap, ◌∙◌, subst, ⊎_elim, cases_eq, slice_index, ◌==◌, Kind, Read, Write, epoch_of, stands, bits_of, WordOp, Code, Cell, Instr, Shape, ConflictAt, Stage, Clears, FreeClears, WithdrawsFrom, Stop, Conflict, Fits, granules, granule_at, granule_of, shadow_word, Machine, instr_at, act, place, word, ref, step_of, opening_words, TurnsComeOut, MayStop, check_of, turn, after, may_go, asked_by, Turn, IsRun, MayTurn, after_turn, put, state_now, result_of, opening_of, one_thread, bounds, place_after, Targets, Labels, IsWellTyped, IsSmall, first_place, Touch, Untouched, CheckOf, ClearOf, WithdrawOf, Marks, cleared_by, freed_by, withdrawn_by, touch_of, with_check, without_thread, marks_by, marks_after, RunsConflict, CheckStands, touch_at, RunsBits, site_of_check, Past, MadeSince, Opposes, ShowsConflict, yes, is_below}, TurnAt.{turn_at, RunOf}, Consists.found_is, Outcomes.reports, Sole.{Halting, by_last_turn, stop_none}, Doing.granule_low, Carried.{put_same, put_other}}
 
 -- ---- a turn that is a check has a site
 module _ (s : Shape) (kind : Kind) (p : ℕ) (ok : Bool) where
@@ -206,12 +206,5 @@ module _ (outs : TurnsComeOut) (conflicts : RunsConflict) (bits : RunsBits) (x :
   }
 
   pub accesses_show : (run : List Turn) → RunOf code s run → (t : ℕ) (c : ConflictAt) → ((place_after code s run).threads t).own.stop ≡ Some (Conflict c) → ShowsConflict code s run t c
-  accesses_show [] run t c is = absurd (let f : None ≡ Some (Conflict c) = is in cc)
-  accesses_show (one ∷ earlier) run t c is =
-      let g = place_after code s earlier in
-      let now = state_now (one_thread code s) g one in
-      ⊎_elim
-      (λ (same : t ≡ one.thread). subst (λ t. ShowsConflict code s (one ∷ earlier) t c) (sym same)
-      (shows_conflict one earlier run c (ap (λ (y : Machine). y.own.stop) (sym (put_same g.threads one.thread now)) ∙ ap (λ u. (put g.threads one.thread now u).own.stop) (sym same) ∙ is)))
-      (λ (ne : t ≡ one.thread → ⊥). further one earlier t c (accesses_show earlier run.0 t c (ap (λ (y : Machine). y.own.stop) (sym (put_other g.threads one.thread t now ne)) ∙ is)))
-      (cases_eq t one.thread)
+  accesses_show run is_run t c = by_last_turn code s (λ y. y.own.stop ≡ Some (Conflict c)) (λ run t. ShowsConflict code s run t c) (λ t is. absurd (let f : None ≡ Some (Conflict c) = is in cc))
+      (λ one earlier t _ k. further one earlier t c k) (λ one earlier run _ is. shows_conflict one earlier run c is) run is_run t

@@ -40,20 +40,23 @@ split e L before d after h = ⊎_elim
     (λ (k : (rest : History) × (after ≡ rest ++ e ∷ []) × (reverse L ≡ before ++ d ∷ rest)). Earlier k.0 k.1 k.2)
     (parts e (reverse L) before d after (sym (reverse_push e L) ∙ h))
 
--- ---- what holds of each access
-abbrev pub EachAccess : (History → SourceEvent → Access → Type 0) → History → Type 0
-EachAccess P R = (before : History) (e : SourceEvent) (after : History) (a : Access) → Stands R before e after → IsAccess e a → P before e a
+-- ---- what holds of each event, or of each access
+abbrev pub Each : (History → SourceEvent → Type 0) → History → Type 0
+Each P R = (before : History) (e : SourceEvent) (after : History) → Stands R before e after → P before e
 
-pub no_event : (P : History → SourceEvent → Access → Type 0) → EachAccess P []
-no_event P [] e after a h is = absurd (cc)
-no_event P (b ∷ bs) e after a h is = absurd (cc)
+abbrev pub OfAccess : (History → SourceEvent → Access → Type 0) → History → SourceEvent → Type 0
+OfAccess P before e = (a : Access) → IsAccess e a → P before e a
 
-pub each_push : (P : History → SourceEvent → Access → Type 0) (e : SourceEvent) (L : Newest) → EachAccess P (reverse L) → ((a : Access) → IsAccess e a → P (reverse L) e a) → EachAccess P (reverse (e ∷ L))
-each_push P e L old new before d after a h is = by (split e L before d after h)
+pub no_event : (P : History → SourceEvent → Type 0) → Each P []
+no_event P [] e after h = absurd (cc)
+no_event P (b ∷ bs) e after h = absurd (cc)
+
+pub each_push : (P : History → SourceEvent → Type 0) (e : SourceEvent) (L : Newest) → Each P (reverse L) → P (reverse L) e → Each P (reverse (e ∷ L))
+each_push P e L old new before d after h = by (split e L before d after h)
   where
-    by : Split e L before d after → P before d a
-    by (Last b s n) = subst (λ b. P b d a) (sym b) (subst (λ d. P (reverse L) d a) (sym s) (new a (subst (λ (d : SourceEvent). IsAccess d a) s is)))
-    by (Earlier rest n s) = old before d rest a s is
+    by : Split e L before d after → P before d
+    by (Last b s n) = subst (λ b. P b d) (sym b) (subst (P (reverse L)) (sym s) new)
+    by (Earlier rest n s) = old before d rest s
 
 -- ---- objects
 abbrev pub live_in : Newest → ℕ → Bool

@@ -1,5 +1,5 @@
 -- A lock check that is refused is of an access whose mode names the mutex that the check looks for.
-use Rattle.sharc_history_laws.proofs.{Imports.{◌≡◌, ℕ, inl, inr, zero, suc, ◌+◌, Bool, true, false, List, [], ◌∷◌, ◌++◌, Some, None, refl, sym, ap, ◌∙◌, subst, ⊎_elim, cases_eq, ◌==◌, CellAt, SourceEvent, CellMode, Code, PlaceMode, Cell, Instr, Shape, Stop, NoLock, Fits, Machine, instr_at, word, is_of_null, stopped, opening_words, TurnsComeOut, MayStop, turn, after, Turn, Global, IsRun, MayTurn, put, state_now, result_of, opening_of, cell_at, made_cell, mode_of, place_at, lock_through, one_thread, bounds, place_after, IsThere, Access, access_by, events_of, holds_mutex, History, Obeys, Until, Targets, Field, FieldMode, Content, Gate, Closed, Checked, Holds, Loaded, HoldsLoaded, Sole, Label, Labels, LessGate, LessNumber, SameReference, gated, IsWellTyped, Fine, Accesses as TypedAccess, MayAccess, IsMode, knows_base, State, OnHold, IsOn, CellsAreThere, IsLockCheck, LacksLock, IsLocked, IsFollowed, ChecksAreFollowed, access_to, access_of, access_checked, ShowsLock, yes, TurnState}, TurnAt.{turn_at, thread_at, RunOf}, Consists.Consists, Finds.is_there, Followed.{accessed_is, same_cell, same_access as moved_access}, LockModes.{same_copies, lock_mode_now}, Outcomes.reports, Single.rests_hold, Sole.{Halting, stop_none}, Carried.{put_same, put_other}}
+use Rattle.sharc_history_laws.proofs.{Imports.{◌≡◌, ℕ, inl, inr, zero, suc, ◌+◌, Bool, true, false, List, [], ◌∷◌, ◌++◌, Some, None, refl, sym, ap, ◌∙◌, subst, ◌==◌, CellAt, SourceEvent, CellMode, Code, PlaceMode, Cell, Instr, Shape, Stop, NoLock, Fits, Machine, instr_at, word, is_of_null, stopped, opening_words, TurnsComeOut, MayStop, turn, after, Turn, Global, IsRun, MayTurn, state_now, result_of, opening_of, cell_at, made_cell, mode_of, place_at, lock_through, one_thread, bounds, place_after, IsThere, Access, access_by, events_of, holds_mutex, History, Obeys, Until, Targets, Field, FieldMode, Content, Gate, Closed, Checked, Holds, Loaded, HoldsLoaded, Sole, Label, Labels, LessGate, LessNumber, SameReference, gated, IsWellTyped, Fine, Accesses as TypedAccess, MayAccess, IsMode, knows_base, State, OnHold, IsOn, CellsAreThere, IsLockCheck, LacksLock, IsLocked, IsFollowed, ChecksAreFollowed, access_to, access_of, access_checked, ShowsLock, yes, TurnState}, TurnAt.{turn_at, thread_at, RunOf}, Consists.Consists, Finds.is_there, Followed.{accessed_is, same_cell, same_access as moved_access}, LockModes.{same_copies, lock_mode_now}, Outcomes.reports, Single.rests_hold, Sole.{Halting, by_last_turn, stop_none}, Carried.{put_same, put_other}}
 use Rattle.sharc_history_laws.specs.Followed.{Accesses}
 
 -- ---- the access that the check is of
@@ -190,18 +190,9 @@ module _ (outs : TurnsComeOut) (cell_laws : CellsAreThere) (x : Targets) (code :
     names_then is = let k = reports s i (result_of one.event) checker now (outs code s i checker (result_of one.event)) (NoLock site word) refl fresh is in names_now k.0 k.1
 
   pub locks_named : (run : List Turn) → RunOf code s run → (t site word : ℕ) → ((place_after code s run).threads t).own.stop ≡ Some (NoLock site word) → Names ((place_after code s run).threads t) site
-  locks_named [] run t site word is = absurd (let f : None ≡ Some (NoLock site word) = is in cc)
-  locks_named (one ∷ earlier) run t site word is =
-      let g = place_after code s earlier in
-      let now = state_now (one_thread code s) g one in
-      ⊎_elim
-      (λ (same : t ≡ one.thread).
-      let y : (place_after code s (one ∷ earlier)).threads t ≡ now = ap (put g.threads one.thread now) same ∙ put_same g.threads one.thread now in
-      subst (λ y. Names y site) (sym y) (names_then one earlier run site word (ap (λ (y : Machine). y.own.stop) (sym y) ∙ is)))
-      (λ (ne : t ≡ one.thread → ⊥).
-      let y : (place_after code s (one ∷ earlier)).threads t ≡ g.threads t = put_other g.threads one.thread t now ne in
-      subst (λ y. Names y site) (sym y) (locks_named earlier run.0 t site word (ap (λ (y : Machine). y.own.stop) (sym y) ∙ is)))
-      (cases_eq t one.thread)
+  locks_named run is_run t site word = by_last_turn code s (λ y. y.own.stop ≡ Some (NoLock site word)) (λ run t. Names ((place_after code s run).threads t) site) (λ t is. absurd (let f : None ≡ Some (NoLock site word) = is in cc))
+      (λ one earlier t ne k. subst (λ y. Names y site) (sym (put_other (place_after code s earlier).threads one.thread t (state_now (one_thread code s) (place_after code s earlier) one) ne)) k)
+      (λ one earlier run _ is. subst (λ y. Names y site) (sym (put_same (place_after code s earlier).threads one.thread (state_now (one_thread code s) (place_after code s earlier) one))) (names_then one earlier run site word is)) run is_run t
 
 -- the check looks for one mutex
 one_mutex : (code : Code) (m : Machine) (i : Instr) (a b : ℕ) (c d : CellAt) → IsLockCheck code m i a c → IsLockCheck code m i b d → c ≡ d

@@ -1,5 +1,5 @@
 -- The held logs of threads are those that their events tell, so an access under a lock comes while the thread holds the mutex.
-use Rattle.sharc_history_laws.proofs.{Imports.{◌≡◌, ℕ, zero, suc, ◌+◌, ◌<◌, ◌≢◌, ◌⊎◌, inl, Bool, true, false, not, ◌||◌, ◌&&◌, length, List, [], ◌∷◌, ◌++◌, reverse, Option, Some, None, if◌then◌else◌, refl, sym, ap, ◌∙◌, subst, ⊎_elim, arith, cases_eq, nat_tests, nat_lt, ◌==◌, Act, SourceEvent, CellAt, Object, CellMode, HeldMutex, with_mutex, without, Code, PlaceMode, Cell, Instr, Shape, RunLaws, Fits, first_cell, words_of, cell_of, Machine, place, object, word, is_held, taken, act, locked, goes, fails, opening_words, is_locking, turn, after, Turn, Global, IsRun, MayTurn, after_turn, put, state_now, result_of, opening_of, one_thread, bounds, place_after, said, cell_at, mode_of, place_at, event_at, lock_through, said_now, IsMutex, table_of, Access, same_object, same_cell, is_cell, locks, unlocks, is_of, History, IsAccess, Targets, FieldMode, Labels, IsWellTyped, MayAccess, IsMode, World, IsSmall, GateStands, OnHold, Keeps, CodeBegins, CellsAreThere, PointersAreThere, AccessesAreAllowed, history_of, is_below, eqb-true, not_true, is_access}, TurnAt.{turn_at, told_at, turn_stands}, Single.rests_hold, Stands.gate, Finds.{mutex_cell, pending_apart}, Consists.{Consists, consists_then, at_first}, Acts.{access_said, thread_said, no_access, access_at, IsAccess as TellsAccess, access_of}, Lists.{Newest, EachAccess, no_event}, Rules.{over_runs, pushed, newest, newest_now, number_is, about_now, hold_access, each_pushed}, Holding.{cell_eq, holds_in, holds_other, holds_own}, Outcomes.logs, Mutexless.{mutex_said, no_mutex, not_locked}, Locked.{IsIn, in_append, in_without, Names, names_one, names_cell, one_place, LogTold, held_told, lock_eq, through_is}, Carried.{put_same, put_other}, LockModes.mutex_names}
+use Rattle.sharc_history_laws.proofs.{Imports.{◌≡◌, ℕ, zero, suc, ◌+◌, ◌<◌, ◌≢◌, ◌⊎◌, inl, Bool, true, false, not, ◌||◌, ◌&&◌, length, List, [], ◌∷◌, ◌++◌, reverse, Option, Some, None, if◌then◌else◌, refl, sym, ap, ◌∙◌, subst, ⊎_elim, arith, cases_eq, nat_tests, nat_lt, ◌==◌, Act, SourceEvent, CellAt, Object, CellMode, HeldMutex, with_mutex, without, Code, PlaceMode, Cell, Instr, Shape, RunLaws, Fits, first_cell, words_of, cell_of, Machine, place, object, word, is_held, taken, act, locked, goes, fails, opening_words, is_locking, turn, after, Turn, Global, IsRun, MayTurn, after_turn, put, state_now, result_of, opening_of, one_thread, bounds, place_after, said, cell_at, mode_of, place_at, event_at, lock_through, said_now, IsMutex, table_of, Access, same_object, same_cell, is_cell, locks, unlocks, is_of, History, IsAccess, Targets, FieldMode, Labels, IsWellTyped, MayAccess, IsMode, IsSmall, GateStands, OnHold, Keeps, CodeBegins, CellsAreThere, PointersAreThere, AccessesAreAllowed, history_of, is_below, eqb-true, not_true, is_access}, TurnAt.{turn_at, told_at, turn_stands}, Single.rests_hold, Stands.gate, Finds.{mutex_cell, pending_apart}, Consists.Consists, Acts.{access_said, thread_said, no_access, access_at, IsAccess as TellsAccess, access_of}, Lists.{Newest, Each, OfAccess, no_event}, Rules.{over_runs, pushed, newest, number_is, about_now, hold_access, each_pushed}, Holding.{cell_eq, holds_in, holds_other, holds_own}, Outcomes.logs, Mutexless.{mutex_said, no_mutex, not_locked}, Locked.{IsIn, in_append, in_without, Names, names_one, names_cell, one_place, LogTold, held_told, lock_eq, through_is}, Carried.{put_same, put_other}, LockModes.mutex_names}
 
 object_refl : (a : Object) → same_object a a ≡ true
 object_refl (Object.Global g) = let e : (g == g) ≡ true = grind (arith, nat_tests) in e
@@ -221,19 +221,19 @@ UnderItsLock before e a = (mutex : CellAt) → a.mode ≡ CellMode.Locked (Some 
 pub record Locks (x : Targets) (code : Code) (s : Shape) (ls : Labels) (run : List Turn) : Type 0 where
   pub consists : Consists x code s ls run
   pub logs : (u : ℕ) → LogTold code s (newest code s run) u ((place_after code s run).threads u).own.held
-  pub under : EachAccess UnderItsLock (history_of code s run)
+  pub under : Each (OfAccess UnderItsLock) (history_of code s run)
 
 module _ (cell_laws : CellsAreThere) (pointers : PointersAreThere) (rights : AccessesAreAllowed) (laws : RunLaws) (begins_law : CodeBegins) (keeps : Keeps) (x : Targets) (code : Code) (s : Shape) (ls : Labels) (wt : IsWellTyped x code ls) (fits : Fits code s) (few : IsSmall code s) where
   pub lock_runs : (run : List Turn) → IsRun bounds (one_thread code s) (opening_of bounds (one_thread code s) (opening_words code s)) run → Locks x code s ls run
   lock_runs run is =
       let k = over_runs cell_laws pointers laws begins_law keeps x code s ls wt fits few
-      (λ run h L. record { logs : (u : ℕ) → LogTold code s L u ((place_after code s run).threads u).own.held; under : EachAccess UnderItsLock (reverse L) })
-      (record { logs = λ u k is. absurd is; under = no_event UnderItsLock })
+      (λ run h L. record { logs : (u : ℕ) → LogTold code s L u ((place_after code s run).threads u).own.held; under : Each (OfAccess UnderItsLock) (reverse L) })
+      (record { logs = λ u k is. absurd is; under = no_event (OfAccess UnderItsLock) })
       (λ one earlier h may _ old.
       let ev = said_now code (table_of code s earlier) ((place_after code s earlier).threads one.thread) (result_of one.event) in
       let L = newest code s earlier in
       record {
         logs = logs_then cell_laws pointers rights laws keeps x code s ls wt fits few one earlier h may L old.logs ev refl;
-        under = each_pushed UnderItsLock ev L old.under (λ e is a access mutex mode. under_now cell_laws pointers rights laws keeps x code s ls wt fits few one earlier h may L (old.logs one.thread) e is a access mutex mode);
+        under = each_pushed (OfAccess UnderItsLock) ev L old.under (λ e is a access mutex mode. under_now cell_laws pointers rights laws keeps x code s ls wt fits few one earlier h may L (old.logs one.thread) e is a access mutex mode);
       }) run is in
       record { consists = k.0; logs = k.1.logs; under = k.1.under }

@@ -1,5 +1,5 @@
 -- What a thread holds by its events is in its held log, so where a lock check is refused it does not hold the mutex.
-use Rattle.sharc_history_laws.proofs.{Imports.{◌≡◌, ℕ, zero, suc, ◌+◌, ◌<◌, ◌⊎◌, inl, inr, Bool, true, false, not, cond, ◌||◌, ◌&&◌, length, List, [], ◌∷◌, ◌++◌, reverse, Option, Some, None, is_some, if◌then◌else◌, refl, sym, ap, ◌∙◌, subst, ⊎_elim, arith, eqb-true, cases_eq, nat_tests, nat_lt, ◌==◌, Act, SourceEvent, CellAt, HeldMutex, with_mutex, without, object_of, Code, Cell, Instr, Shape, NoLock, RunLaws, Fits, first_cell, words_of, cell_of, cell_word, Machine, ref, place, object, word, is_held, is_of_null, taken, act, stopped, opening_words, MayStop, turn, after, may_go, Turn, Global, IsRun, MayTurn, after_turn, put, state_now, result_of, opening_of, one_thread, bounds, place_after, said, cell_at, made_cell, said_now, MayFind, IsLock, IsMutex, IsApart, IsFree, table_of, same_cell, is_cell, locks, unlocks, is_of, Targets, Labels, IsWellTyped, IsSmall, Keeps, CodeBegins, CellsAreThere, PointersAreThere, AccessesAreAllowed, history_of, IsLockCheck, LacksLock, is_below, yes, not_true}, TurnAt.{turn_at, told_at}, Consists.{Consists, consists_then, own_turn, at_first}, Lists.Newest, Rules.{pushed, newest, newest_now}, Holding.{cell_eq, holds_in, holds_other, holds_own}, Mutexless.{mutex_said, not_locked}, Locked.{IsIn, all_in, Names, names_one, names_cell, one_place}, Locking.{cell_refl, is_own, is_others, word_is, lock_event, unlock_event, log_then}, Outcomes.{reports, halts}, Sole.stop_none, Carried.{put_same, put_other}}
+use Rattle.sharc_history_laws.proofs.{Imports.{◌≡◌, ℕ, zero, suc, ◌+◌, ◌<◌, ◌⊎◌, inl, inr, Bool, true, false, not, cond, ◌||◌, ◌&&◌, length, List, [], ◌∷◌, ◌++◌, reverse, Option, Some, None, is_some, if◌then◌else◌, refl, sym, ap, ◌∙◌, subst, ⊎_elim, arith, eqb-true, cases_eq, nat_tests, nat_lt, ◌==◌, Act, SourceEvent, CellAt, HeldMutex, with_mutex, without, object_of, Code, Cell, Instr, Shape, NoLock, RunLaws, Fits, first_cell, words_of, cell_of, cell_word, Machine, ref, place, object, word, is_held, is_of_null, taken, act, stopped, MayStop, turn, after, may_go, Turn, Global, MayTurn, after_turn, put, state_now, result_of, one_thread, bounds, place_after, said, cell_at, made_cell, said_now, MayFind, IsLock, IsMutex, IsApart, IsFree, table_of, same_cell, is_cell, locks, unlocks, is_of, Targets, Labels, IsWellTyped, IsSmall, Keeps, CodeBegins, CellsAreThere, PointersAreThere, AccessesAreAllowed, IsLockCheck, LacksLock, is_below, yes, not_true}, TurnAt.{RunOf, turn_at, told_at}, Consists.{Consists, own_turn}, Lists.Newest, Rules.{over_runs, pushed, newest}, Holding.{cell_eq, holds_in, holds_other, holds_own}, Mutexless.{mutex_said, not_locked}, Locked.{IsIn, all_in, Names, names_one, names_cell, one_place}, Locking.{cell_refl, is_own, is_others, word_is, lock_event, unlock_event, log_then}, Outcomes.{reports, halts}, Sole.stop_none, Threaded.{ThreadsTold, threads_then, nobody_yet}, Carried.{put_same, put_other}}
 
 pub above : (n : ℕ) → (n == 0) ≡ false → 0 < n
 above zero e = absurd (yes e)
@@ -220,35 +220,29 @@ module _ (cell_laws : CellsAreThere) (pointers : PointersAreThere) (rights : Acc
   halts_then fresh old = all_then (λ u (y : Machine). is_some y.own.stop ≡ true → may_go y.at.state ≡ false) (halts s i found m now (laws.turns.outcomes code s i m found) fresh) (λ u ne. old u)
 
 -- ---- runs
-pub record Lacking (x : Targets) (code : Code) (s : Shape) (ls : Labels) (run : List Turn) : Type 0 where
-  pub consists : Consists x code s ls run
-  pub has : (u : ℕ) → LogHas code s (newest code s run) u ((place_after code s run).threads u).own.held
+-- what the logs, the stops and the threads of a run say of the events so far
+pub record Lacking (code : Code) (s : Shape) (run : List Turn) (L : Newest) : Type 0 where
+  pub has : (u : ℕ) → LogHas code s L u ((place_after code s run).threads u).own.held
   pub halts : (u : ℕ) → is_some ((place_after code s run).threads u).own.stop ≡ true → may_go ((place_after code s run).threads u).at.state ≡ false
-  pub shows : (u site word : ℕ) → ((place_after code s run).threads u).own.stop ≡ Some (NoLock site word) → LacksLock code (history_of code s run) u ((place_after code s run).threads u) site
+  pub shows : (u site word : ℕ) → ((place_after code s run).threads u).own.stop ≡ Some (NoLock site word) → LacksLock code (reverse L) u ((place_after code s run).threads u) site
+  pub threads : ThreadsTold L (place_after code s run)
 
 module _ (cell_laws : CellsAreThere) (pointers : PointersAreThere) (rights : AccessesAreAllowed) (laws : RunLaws) (begins_law : CodeBegins) (keeps : Keeps) (x : Targets) (code : Code) (s : Shape) (ls : Labels) (wt : IsWellTyped x code ls) (fits : Fits code s) (few : IsSmall code s) where
-  pub lacking : (run : List Turn) → IsRun bounds (one_thread code s) (opening_of bounds (one_thread code s) (opening_words code s)) run → Lacking x code s ls run
-  lacking [] run = record {
-    consists = at_first begins_law x code s ls wt fits;
-    has = λ u c is. absurd (yes (sym is));
-    halts = λ u is. absurd (yes (sym is));
-    shows = λ u site word is. absurd (let f : None ≡ Some (NoLock site word) = is in cc);
-  }
-  lacking (one ∷ earlier) run =
-      let old = lacking earlier run.0 in
-      let h = old.consists in
-      let may = run.1 in
-      let g = place_after code s earlier in
-      let t = one.thread in
-      let ev = said_now code (table_of code s earlier) (g.threads one.thread) (result_of one.event) in
+  pub lacking : (run : List Turn) → RunOf code s run → (h : Consists x code s ls run) × Lacking code s run (newest code s run)
+  lacking = over_runs cell_laws pointers laws begins_law keeps x code s ls wt fits few (λ run h L. Lacking code s run L)
+      (record {
+        has = λ u c is. absurd (yes (sym is));
+        halts = λ u is. absurd (yes (sym is));
+        shows = λ u site word is. absurd (let f : None ≡ Some (NoLock site word) = is in cc);
+        threads = nobody_yet (place_after code s []) (λ t is. yes (sym is));
+      })
+      (λ one earlier h may _ old.
       let L = newest code s earlier in
-      let now = newest_now code s one earlier in
-      let fresh = stop_none (g.threads t).own.stop (λ is. yes (sym may.next.runs ∙ old.halts t is)) in
+      let ev = said_now code (table_of code s earlier) ((place_after code s earlier).threads one.thread) (result_of one.event) in
+      let fresh = stop_none ((place_after code s earlier).threads one.thread).own.stop (λ is. yes (sym may.next.runs ∙ old.halts one.thread is)) in
       record {
-        consists = consists_then laws keeps cell_laws pointers x code s ls wt fits few one earlier h may;
-        has = subst (λ (L : Newest). (u : ℕ) → LogHas code s L u ((place_after code s (one ∷ earlier)).threads u).own.held) (sym now)
-            (has_then cell_laws pointers rights laws keeps x code s ls wt fits few one earlier h may L old.has ev refl);
+        has = has_then cell_laws pointers rights laws keeps x code s ls wt fits few one earlier h may L old.has ev refl;
         halts = halts_then cell_laws pointers rights laws keeps x code s ls wt fits few one earlier h may fresh old.halts;
-        shows = subst (λ (L : Newest). (u site word : ℕ) → ((place_after code s (one ∷ earlier)).threads u).own.stop ≡ Some (NoLock site word) → LacksLock code (reverse L) u ((place_after code s (one ∷ earlier)).threads u) site) (sym now)
-            (shows_then cell_laws pointers rights laws keeps x code s ls wt fits few one earlier h may L old.has fresh old.shows);
-      }
+        shows = shows_then cell_laws pointers rights laws keeps x code s ls wt fits few one earlier h may L old.has fresh old.shows;
+        threads = threads_then cell_laws pointers rights laws keeps x code s ls wt fits few one earlier h may L old.threads;
+      })

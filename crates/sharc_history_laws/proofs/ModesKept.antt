@@ -1,5 +1,5 @@
 -- In each run of typed code the cells of an object keep their modes until it is given or freed.
-use Rattle.sharc_history_laws.proofs.{Imports.{◌≡◌, ℕ, ◌+◌, ◌-◌, ◌*◌, ◌<◌, ◌≢◌, ◌⊎◌, inl, inr, Bool, true, false, ◌||◌, List, [], ◌∷◌, reverse, Option, Some, None, refl, sym, ap, ◌∙◌, subst, ⊎_elim, cases_eq, get_or-set_other, slice_index, WordStep, WordEvent, word_after, words_after_step, Act as SourceAct, SourceEvent, CellAt, CellMode as EventMode, Object, Code, Cell, Shape, RunLaws, Fits, StepTurn as Act, Local, Asks, opening_words, turn, asked_by, Turn, Global, IsRun, MayTurn, after_turn, result_of, words_now, opening_of, one_thread, bounds, place_after, said, cell_at, made_cell, place_at, said_now, table_of, Access, makes, gives, begins, frees, is_number, IsAccess, Targets, Field, FieldMode, cells_of, field_in, mode_in, mode_at, is_pointer, lock_number, OfType, Labels, IsWellTyped, CellOf, World, ObjectState, lang_of, has_returned, Closing, Without, changes_objects, IsSmall, OnHold, object_of_cell, number_in, size_of_run, IsOn, Keeps, CodeBegins, CellsAreThere, PointersAreThere, AccessesAreAllowed, StateStands, history_of, or_first, yes, or_second, is_access}, TurnAt.{turn_at, told_at}, Stands.gate, Tables.{header_of, length_kept, step_leaves}, Writes.writes, Sparing.{Spares, SparesTurn, Leaves, Elsewhere, Had}, Unwritten.spares, Consists.{Consists, consists_then, objects_then, effect_then, at_first}, Acts.{access_said, given_at, freed_at, About, no_access, access_at, IsAccess as TellsAccess, access_of}, Lists.{Newest, EachAccess, no_event}, Rules.{over_runs, pushed, newest, newest_now, about_now, hold_access, cell_is, same_behind, number_yes, each_pushed}, Shared.{number_of, closing_own, some_closing, not_sole, unless_given, unless_made}, Carried.without_carried, Locked.Names, OneMode.{ModeBy, ModeOf, place_of, one_by, mode_now, numbers_now}, Since.{IsTo, Since, AsBefore, as_before}}
+use Rattle.sharc_history_laws.proofs.{Imports.{◌≡◌, ℕ, ◌+◌, ◌-◌, ◌*◌, ◌<◌, ◌≢◌, ◌⊎◌, inl, inr, true, false, ◌||◌, List, [], ◌∷◌, reverse, Option, Some, None, refl, sym, ap, ◌∙◌, subst, ⊎_elim, cases_eq, get_or-set_other, slice_index, WordStep, WordEvent, word_after, words_after_step, Act as SourceAct, SourceEvent, CellAt, CellMode as EventMode, Object, Code, Cell, Shape, RunLaws, Fits, StepTurn as Act, Local, Asks, opening_words, turn, asked_by, Turn, Global, IsRun, MayTurn, after_turn, result_of, words_now, opening_of, one_thread, bounds, place_after, said, cell_at, made_cell, place_at, said_now, table_of, Access, makes, gives, begins, frees, is_number, IsAccess, Targets, Field, FieldMode, cells_of, field_in, mode_in, mode_at, is_pointer, lock_number, OfType, Labels, IsWellTyped, CellOf, World, ObjectState, lang_of, has_returned, Closing, Without, changes_objects, IsSmall, OnHold, object_of_cell, number_in, size_of_run, IsOn, Keeps, CodeBegins, CellsAreThere, PointersAreThere, AccessesAreAllowed, StateStands, history_of, or_first, yes, or_second, is_access}, TurnAt.{turn_at, told_at}, Stands.gate, Tables.{header_of, length_kept, step_leaves}, Writes.writes, Sparing.{Spares, SparesTurn, Leaves, Elsewhere, Had}, Unwritten.spares, Consists.{Consists, consists_then, objects_then, effect_then}, Acts.{access_said, given_at, freed_at, About, no_access, access_at, IsAccess as TellsAccess, access_of}, Lists.{Newest, Each, OfAccess, no_event}, Rules.{over_runs, pushed, newest, about_now, hold_access, cell_is, same_behind, number_yes, each_pushed}, Shared.{number_of, closing_own, some_closing, not_sole, unless_given, unless_made}, Carried.without_carried, Locked.Names, OneMode.{ModeBy, ModeOf, place_of, one_by, mode_now, numbers_now}, Since.{IsTo, Since, AsBefore, as_before}}
 use Rattle.sharc_code.specs.Runs.{step_of}
 use Rattle.sharc_invariant.specs.Types.{CellMode}
 use Rattle.sharc_tree.specs.declared.event.Act.TheVariants as acts
@@ -237,19 +237,19 @@ module _ (state_law : StateStands) (cell_laws : CellsAreThere) (pointers : Point
 pub record KeepsModes (x : Targets) (code : Code) (s : Shape) (ls : Labels) (run : List Turn) : Type 0 where
   pub consists : Consists x code s ls run
   pub have : (c : CellAt) (mode : EventMode) → Since (newest code s run) c mode → ModeOf x code consists.world c mode ⊎ Without consists.world (number_of c.object)
-  pub same : EachAccess AsBefore (history_of code s run)
+  pub same : Each (OfAccess AsBefore) (history_of code s run)
 
 module _ (state_law : StateStands) (cell_laws : CellsAreThere) (pointers : PointersAreThere) (rights : AccessesAreAllowed) (laws : RunLaws) (begins_law : CodeBegins) (keeps : Keeps) (x : Targets) (code : Code) (s : Shape) (ls : Labels) (wt : IsWellTyped x code ls) (fits : Fits code s) (few : IsSmall code s) where
   pub keeps_modes : (run : List Turn) → IsRun bounds (one_thread code s) (opening_of bounds (one_thread code s) (opening_words code s)) run → KeepsModes x code s ls run
   keeps_modes run is =
       let k = over_runs cell_laws pointers laws begins_law keeps x code s ls wt fits few
-      (λ run h L. record { have : (c : CellAt) (mode : EventMode) → Since L c mode → ModeOf x code h.world c mode ⊎ Without h.world (number_of c.object); same : EachAccess AsBefore (reverse L) })
-      (record { have = λ c mode since. absurd since; same = no_event AsBefore })
+      (λ run h L. record { have : (c : CellAt) (mode : EventMode) → Since L c mode → ModeOf x code h.world c mode ⊎ Without h.world (number_of c.object); same : Each (OfAccess AsBefore) (reverse L) })
+      (record { have = λ c mode since. absurd since; same = no_event (OfAccess AsBefore) })
       (λ one earlier h may _ old.
       let ev = said_now code (table_of code s earlier) ((place_after code s earlier).threads one.thread) (result_of one.event) in
       let L = newest code s earlier in
       record {
         have = have_then state_law cell_laws pointers rights laws keeps x code s ls wt fits few one earlier h may L old.have ev refl;
-        same = each_pushed AsBefore ev L old.same (λ d e b is. as_now state_law cell_laws pointers rights laws keeps x code s ls wt fits few one earlier h may L old.have d e b is);
+        same = each_pushed (OfAccess AsBefore) ev L old.same (λ d e b is. as_now state_law cell_laws pointers rights laws keeps x code s ls wt fits few one earlier h may L old.have d e b is);
       }) run is in
       record { consists = k.0; have = k.1.have; same = k.1.same }

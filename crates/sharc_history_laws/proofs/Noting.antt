@@ -1,5 +1,5 @@
 -- Each note in the access table of a thread is of a check that the thread made in the run, and that passed.
-use Rattle.sharc_history_laws.proofs.{Imports.{◌≡◌, ℕ, zero, suc, ◌+◌, ◌⊎◌, inl, inr, Bool, true, false, List, [], ◌∷◌, Some, None, is_some, if◌then◌else◌, refl, sym, ap, ◌∙◌, subst, ⊎_elim, cases_eq, get_or-set_other, slice_index, slice_index_or, slice_set, replicate, Kind, Read, Write, Note, GranuleNotes, blank, of_kind, note_of, site_at, epoch_of, bits_of, conflicts_in, noted, WordOp, Code, Cell, Instr, Shape, Conflict, granules, granule_at, granule_of, shadow_word, Machine, act, place, checked, stopped, with_own, wrote, step_of, TurnsComeOut, turn, after, may_go, asked_by, Turn, MayTurn, after_turn, put, state_now, result_of, one_thread, bounds, place_after, CheckOf, touch_of, site_of_check, IsNoted}, TurnAt.{turn_at, RunOf}, Conflicting.granule_same, Consists.found_is, Outcomes.{is_access_check, tabled}, Doing.{set_most as set_at_most}, Carried.{put_same, put_other}}
+use Rattle.sharc_history_laws.proofs.{Imports.{◌≡◌, ℕ, zero, suc, ◌+◌, ◌⊎◌, inl, inr, Bool, true, false, List, [], ◌∷◌, Some, None, is_some, if◌then◌else◌, refl, sym, ap, ◌∙◌, subst, ⊎_elim, cases_eq, get_or-set_other, slice_index, slice_index_or, slice_set, replicate, Kind, Read, Write, Note, GranuleNotes, blank, of_kind, note_of, site_at, epoch_of, bits_of, conflicts_in, noted, WordOp, Code, Cell, Instr, Shape, Conflict, granules, granule_at, granule_of, shadow_word, Machine, act, place, checked, stopped, with_own, wrote, step_of, TurnsComeOut, turn, after, may_go, asked_by, Turn, MayTurn, after_turn, state_now, result_of, one_thread, bounds, place_after, CheckOf, touch_of, site_of_check, IsNoted}, TurnAt.{turn_at, RunOf}, Conflicting.granule_same, Consists.found_is, Outcomes.{is_access_check, tabled}, Sole.by_last_turn, Doing.{set_most as set_at_most}, Carried.put_same}
 use Rattle.sharc_heap.specs.{Notes.with_note, Accesses.Accesses}
 use Rattle.sharc_code.specs.Machine as machines
 
@@ -117,17 +117,9 @@ module _ (outs : TurnsComeOut) (code : Code) (s : Shape) where
   }
 
   pub notes_told : (run : List Turn) → RunOf code s run → (j p : ℕ) (kind : Kind) (note : Note) → note_of ((place_after code s run).threads j).own.table p kind ≡ Some note → IsNoted code s run j p kind note
-  notes_told [] run j p kind note is = absurd (blank_none kind note (ap (of_kind kind) (sym (blank_at (granules s) p)) ∙ is))
-  notes_told (one ∷ earlier) run j p kind note is =
-      let g = place_after code s earlier in
-      let now = state_now (one_thread code s) g one in
-      ⊎_elim
-      (λ (same : j ≡ one.thread).
-      let mine : note_of (after (turn code s (g.threads one.thread)) (result_of one.event)).own.table p kind ≡ Some note =
-      ap (λ (y : Machine). note_of y.own.table p kind) (sym (put_same g.threads one.thread now)) ∙ ap (λ u. note_of (put g.threads one.thread now u).own.table p kind) (sym same) ∙ is in
-      subst (λ j. IsNoted code s (one ∷ earlier) j p kind note) (sym same) (⊎_elim
-      (λ (old : note_of (g.threads one.thread).own.table p kind ≡ Some note). further one earlier one.thread p kind note (notes_told earlier run.0 one.thread p kind note old))
+  notes_told run is_run j p kind note = by_last_turn code s (λ y. note_of y.own.table p kind ≡ Some note) (λ run j. IsNoted code s run j p kind note)
+      (λ j is. absurd (blank_none kind note (ap (of_kind kind) (sym (blank_at (granules s) p)) ∙ is))) (λ one earlier j _ k. further one earlier j p kind note k)
+      (λ one earlier run old is. ⊎_elim
+      (λ (was : note_of ((place_after code s earlier).threads one.thread).own.table p kind ≡ Some note). further one earlier one.thread p kind note (old was))
       (λ (new : IsNoted code s (one ∷ earlier) one.thread p kind note). new)
-      (noted_now one earlier run p kind note mine)))
-      (λ (ne : j ≡ one.thread → ⊥). further one earlier j p kind note (notes_told earlier run.0 j p kind note (ap (λ (y : Machine). note_of y.own.table p kind) (sym (put_other g.threads one.thread j now ne)) ∙ is)))
-      (cases_eq j one.thread)
+      (noted_now one earlier run p kind note is)) run is_run j

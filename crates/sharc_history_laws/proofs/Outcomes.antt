@@ -1,5 +1,5 @@
 -- What a turn changes of what its thread has for itself, and whether it goes on, by the outcome of the turn.
-use Rattle.sharc_history_laws.proofs.Imports.{◌≡◌, ◌==◌, ◌⊎◌, ℕ, inl, inr, Bool, true, false, not, Some, None, is_some, refl, sym, ap, ◌∙◌, subst, Trap, Kind, Read, Write, Cell, Instr, Shape, Stage, Links, Wakes, Withdraws, WithdrawsFrom, Leaves, Stop, Machine, Own, stopped, TurnOutcome, Stops, Stays, Rested, Notes, Logs, Begun, Refused, Gone, own_after, state_after, MayComeOut, MayStop, IsStill, ComesOut, has_stage, check_of, is_load, is_locking, is_exit, may_go, Trapped, is_withdrawing, is_ended, yes}
+use Rattle.sharc_history_laws.proofs.Imports.{◌≡◌, ◌==◌, ◌⊎◌, ℕ, inl, inr, Bool, true, false, not, Some, None, is_some, refl, sym, ap, ◌∙◌, subst, Trap, Kind, Read, Write, Cell, Instr, Shape, Stage, Links, Wakes, Withdraws, WithdrawsFrom, Leaves, Stop, Machine, Own, stopped, TurnOutcome, Stops, Stays, Rested, Notes, Logs, Begun, Refused, Gone, own_after, state_after, MayComeOut, MayStop, IsStill, ComesOut, has_stage, check_of, is_load, is_locking, is_exit, may_go, Trapped, is_withdrawing, is_ended, yes, TurnState, Ended}
 
 abbrev pub is_access_check : Instr → Bool
 is_access_check (Instr.ChkRead cell site) = true
@@ -13,6 +13,11 @@ is_check Write cell site = refl
 abbrev pub is_trap : Stop → Bool
 is_trap (Trapped why site) = true
 is_trap _ = false
+
+-- who may go on has not ended
+pub going_on : (y : TurnState) → may_go y ≡ true → is_ended y ≡ false
+going_on Ended e = absurd (yes (sym e))
+going_on _ e = refl
 
 -- it is to wake one of the waiters of a word without any
 abbrev pub wakes_nobody : Stage → Bool
@@ -80,11 +85,7 @@ module _ (s : Shape) (i : Instr) (found : ℕ) (m x : Machine) (out : ComesOut s
     where
       by : (o : TurnOutcome) → MayComeOut s i m found o → is_withdrawing (own_after o m.own).stage ≡ true → is_withdrawing m.own.stage ≡ true
       by (Stays stage) may e = absurd (yes (sym (withdraws_of i stage may.0 e) ∙ other))
-      by (Rested heads) may e = absurd (yes (sym e))
-      by (Begun function) may e = absurd (yes (sym e))
-      by (Refused function site) may e = absurd (yes (sym e))
-      by Gone may e = absurd (yes (sym e))
-      by _ may e = e
+      by _ may e = cc
 
   -- none wakes nobody where it did not before
   pub wakes_still : wakes_nobody x.own.stage ≡ true → wakes_nobody m.own.stage ≡ true
@@ -92,11 +93,7 @@ module _ (s : Shape) (i : Instr) (found : ℕ) (m x : Machine) (out : ComesOut s
     where
       by : (o : TurnOutcome) → MayComeOut s i m found o → wakes_nobody (own_after o m.own).stage ≡ true → wakes_nobody m.own.stage ≡ true
       by (Stays stage) may e = absurd (wakes_some i stage may.0 e)
-      by (Rested heads) may e = absurd (yes (sym e))
-      by (Begun function) may e = absurd (yes (sym e))
-      by (Refused function site) may e = absurd (yes (sym e))
-      by Gone may e = absurd (yes (sym e))
-      by _ may e = e
+      by _ may e = cc
 
   -- what was loaded last stays or is gone
   pub loaded_or_gone : is_load i ≡ false → (x.pending ≡ m.pending) ⊎ (x.pending ≡ 0)

@@ -86,11 +86,8 @@ module _ (code : Code) (m : Machine) where
       no_enter _ e = refl
 
       of : (a : Act) → tells a i ≡ true → condition_of a ≡ None
-      of (Act.Enter c) w = absurd (let z : true ≡ false = sym w ∙ no_enter i e in cc)
-      of (Act.Woken c) w = absurd (let z : true ≡ false = sym w ∙ e in cc)
-      of (Act.Signal c) w = absurd (let z : true ≡ false = sym w ∙ e in cc)
-      of (Act.Broadcast c) w = absurd (let z : true ≡ false = sym w ∙ e in cc)
-      of _ w = refl
+      of (Act.Enter c) w = cc (no_enter i e)
+      of _ w = cc
 
       by : (ev : Option SourceEvent) → IsSaidBy i m ev → condition_said ev ≡ None
       by None w = refl

@@ -1,5 +1,5 @@
 -- What remains of checks in shadow words, access tables and stops: why a bit and the written bit stand.
-use Rattle.sharc_history_laws.proofs.{Imports.{◌≡◌, ℕ, suc, ◌+◌, ◌*◌, ◌/◌, ◌<◌, ◌≤◌, ◌⊎◌, inl, inr, Bool, true, false, not, ◌&&◌, Option, Some, None, is_some, if◌then◌else◌, refl, sym, ap, ◌∙◌, subst, ⊎_elim, arith, cases_eq, or_right, not_true as unset, slice_index, ◌==◌, Kind, Read, Write, Note, note_of, site_at, conflicts_in, ShadowLaws, epoch_of, is_write, is_written, stands, AddsAccess, Conflicts, WithdrawsWord, Code, Cell, Instr, Shape, ConflictAt, Conflict, Fits, granules, first_shadow, granule_at, granule_of, Machine, instr_at, place, wrote, stopped, with_own, ThreadLaws, check_of, Turn, Global, MayTurn, after_turn, state_now, one_thread, bounds, Touch, Untouched, CheckOf, ClearOf, WithdrawOf, Passed, Labels, CellsAreThere, touch_at, State, StageStands, OnHold, object_of_cell, number_in, IsWellTyped, Fine, HasCell, Targets, Field, note_number, noted_by, World, same_is, ne_of, eq_of, and_left, or_split as or_cases, yes, and_right, and_from as and_both, not_from_false as not_no, not_yes}, TurnAt.{turn_at, turn_stands}, Doing.{Does, Plain, Passes, Refuses, IsCheckAt, IsNoCheck, site_still, site_new, note_from, does}, Shadows.{IsNext, WordBy, word_by, at_low}, Single.rests_hold, Stands.there, Withdrawing.{has_left, Noted, leaving}, Threaded.or_left, Carried.put_other}
+use Rattle.sharc_history_laws.proofs.{Imports.{◌≡◌, ℕ, suc, ◌+◌, ◌*◌, ◌/◌, ◌<◌, ◌≤◌, ◌⊎◌, inl, inr, Bool, true, false, not, Option, Some, None, is_some, if◌then◌else◌, refl, sym, ap, ◌∙◌, subst, ⊎_elim, arith, cases_eq, or_right, not_true as unset, slice_index, ◌==◌, Kind, Read, Write, Note, note_of, site_at, conflicts_in, ShadowLaws, epoch_of, is_write, is_written, stands, AddsAccess, Conflicts, WithdrawsWord, Code, Cell, Instr, Shape, ConflictAt, Conflict, Fits, granules, first_shadow, granule_at, granule_of, Machine, instr_at, place, wrote, stopped, with_own, ThreadLaws, check_of, Turn, Global, MayTurn, after_turn, state_now, one_thread, bounds, Touch, Untouched, CheckOf, ClearOf, WithdrawOf, Passed, Labels, CellsAreThere, touch_at, State, StageStands, OnHold, object_of_cell, number_in, IsWellTyped, Fine, HasCell, Targets, Field, note_number, noted_by, World, same_is, ne_of, eq_of, and_left, or_split as or_cases, yes, and_right, and_from as and_both, not_from_false as not_no, not_yes}, TurnAt.{turn_at, turn_stands}, Doing.{Does, Plain, Passes, Refuses, IsCheckAt, IsNoCheck, site_still, site_new, note_from, does}, Shadows.{IsNext, WordBy, word_by, at_low}, Single.{rests_hold, single_check}, Stands.there, Withdrawing.{has_left, Noted, leaving}, Threaded.or_left, Carried.put_other}
 use Rattle.sharc_heap.specs.ShadowWord.{is_of}
 use Rattle.sharc_code.specs.Machine as machines
 
@@ -241,11 +241,8 @@ module _ (turns : ThreadLaws) (laws : ShadowLaws) (cell_laws : CellsAreThere) (x
   pub check_bit : (kind : Kind) (p : ℕ) (ok : Bool) → p < granules s → touch ≡ CheckOf kind p ok → AddsAccess (old_at p) (new_at p) tr.thread kind
   check_bit kind p ok lt q = by (word p lt)
     where
-      parts : (k kind : Kind) (a p : ℕ) (b ok : Bool) → CheckOf k a b ≡ CheckOf kind p ok → k ≡ kind
-      parts k kind a p b ok e = cc
-
       by : Became touch tr.thread p (old_at p) (new_at p) (wrote (g.threads tr.thread) p (old_at p)) → AddsAccess (old_at p) (new_at p) tr.thread kind
-      by (Checked k b e a) = subst (AddsAccess (old_at p) (new_at p) t) (parts k kind p p b ok (sym e ∙ q)) a
+      by (Checked k b e a) = subst (AddsAccess (old_at p) (new_at p) t) (let same : k ≡ kind = cc in same) a
       by (Withdrew e a) = absurd (let f : WithdrawOf p ≡ CheckOf kind p ok = sym e ∙ q in cc)
       by (Same e ne) = again
         where
@@ -275,18 +272,15 @@ module _ (turns : ThreadLaws) (laws : ShadowLaws) (cell_laws : CellsAreThere) (x
   mine_now : (kind : Kind) (p : ℕ) (ok : Bool) → touch ≡ CheckOf kind p ok → epoch_of (new_at p) ≡ epoch_of (old_at p) → Reason g' tr.thread p
   mine_now kind p ok q same = by did
     where
-      parts : (k kind : Kind) (a p : ℕ) (b ok : Bool) → CheckOf k a b ≡ CheckOf kind p ok → a ≡ p
-      parts k kind a p b ok e = cc
-
       by : DoesIt → Reason g' tr.thread p
       by (Plain a b c) = absurd (subst IsNoCheck q a)
       by (Passes k a site at b c d) =
-          let e : a ≡ p = parts k kind a p true ok (sym b ∙ q) in
+          let e : a ≡ p = cc in
           let long : a < Rattle.std.specs.Prelude.length m.own.table.notes = subst (λ n. a < n) (sym (st.threads t).has.notes) at.low in
           let z = site_new m.own a k (epoch_of (old_at a)) site long in
           ByNote k z.0 (ap (site_at (note_of m'.own.table p k)) same ∙ ap (λ p. site_at (note_of m'.own.table p k) (epoch_of (old_at p))) (sym e) ∙ ap (λ (y : Machine). site_at (note_of y.own.table a k) (epoch_of (old_at a))) d ∙ z.1)
       by (Refuses k a site at b c d) =
-          let e : a ≡ p = parts k kind a p false ok (sym b ∙ q) in
+          let e : a ≡ p = cc in
           ByStop (record { kind = k; site = site; granule = a; epoch = epoch_of (old_at a); old = old_at a })
           (record { is = ap (λ (y : Machine). y.own.stop) d; granule = e; epoch = ap (λ a. epoch_of (old_at a)) e ∙ sym same })
 
@@ -313,13 +307,13 @@ module _ (turns : ThreadLaws) (laws : ShadowLaws) (cell_laws : CellsAreThere) (x
   written_still : (p : ℕ) → ((k : ℕ) → stands (old_at p) k ≡ true → stands (new_at p) k ≡ true) → epoch_of (new_at p) ≡ epoch_of (old_at p) → Written g p → Written g' p
   written_still p bits same w = record { thread = w.thread; bit = bits w.thread w.bit; why = writes_still w.thread p same w.why }
 
+  same_check : (k kind : Kind) (a p : ℕ) (b ok : Bool) → CheckOf k a b ≡ CheckOf kind p ok → (k ≡ kind) × (a ≡ p)
+  same_check k kind a p b ok e = ((let f : k ≡ kind = cc in f), (let f : a ≡ p = cc in f))
+
   -- a write check by the thread itself, which was passed or refused
   wrote_now : (p : ℕ) (ok : Bool) → p < granules s → touch ≡ CheckOf Write p ok → (a : AddsAccess (old_at p) (new_at p) tr.thread Write) → Written g' p
   wrote_now p ok lt q a = by did
     where
-      parts : (k kind : Kind) (a p : ℕ) (b ok : Bool) → CheckOf k a b ≡ CheckOf kind p ok → (k ≡ kind) × (a ≡ p)
-      parts k kind a p b ok e = ((let f : k ≡ kind = cc in f), (let f : a ≡ p = cc in f))
-
       bit : stands (new_at p) tr.thread ≡ true
       bit = a.threads t ∙ or_right (stands (old_at p) t) (t == t) (same_is t)
 
@@ -329,7 +323,7 @@ module _ (turns : ThreadLaws) (laws : ShadowLaws) (cell_laws : CellsAreThere) (x
       by : DoesIt → Written g' p
       by (Plain b c d) = absurd (subst IsNoCheck q b)
       by (Passes k b site at c d e) =
-          let same = parts k Write b p true ok (sym c ∙ q) in
+          let same = same_check k Write b p true ok (sym c ∙ q) in
           let long : b < Rattle.std.specs.Prelude.length m.own.table.notes = subst (λ n. b < n) (sym (st.threads t).has.notes) at.low in
           let z = site_new m.own b k (epoch_of (old_at b)) site long in
           record {
@@ -339,7 +333,7 @@ module _ (turns : ThreadLaws) (laws : ShadowLaws) (cell_laws : CellsAreThere) (x
                 ∙ ap (λ (y : Machine). site_at (note_of y.own.table b k) (epoch_of (old_at b))) e ∙ z.1);
           }
       by (Refuses k b site at c d e) =
-          let same = parts k Write b p false ok (sym c ∙ q) in
+          let same = same_check k Write b p false ok (sym c ∙ q) in
           elim (is_written (old_at p)) as (λ y. is_written (old_at p) ≡ y → Written g' p) [
             | true ↦ λ was. written_still p keep a.epoch (h.written p lt was)
             | false ↦ λ none. record {
@@ -402,13 +396,10 @@ module _ (turns : ThreadLaws) (laws : ShadowLaws) (cell_laws : CellsAreThere) (x
   refused_write : (k p : ℕ) → (k ≡ tr.thread → ⊥) → stands (old_at p) k ≡ true → touch ≡ CheckOf Write p true → ⊥
   refused_write k p ne bit q = by did
     where
-      kinds : (k kind : Kind) (a p : ℕ) (b ok : Bool) → CheckOf k a b ≡ CheckOf kind p ok → (k ≡ kind) × (a ≡ p)
-      kinds k kind a p b ok e = ((let f : k ≡ kind = cc in f), (let f : a ≡ p = cc in f))
-
       by : DoesIt → ⊥
       by (Plain a b c) = subst IsNoCheck q a
       by (Passes kind a site at b c d) =
-          let same = kinds kind Write a p true true (sym b ∙ q) in
+          let same = same_check kind Write a p true true (sym b ∙ q) in
           let free : conflicts_in (old_at p) t Write (wrote m p (old_at p)) ≡ false =
           sym (ap (λ n. conflicts_in (old_at p) n Write (wrote m p (old_at p))) number) ∙ ap (λ kind. conflicts_in (old_at p) m.own.number kind (wrote m p (old_at p))) (sym same.0) ∙ ap (λ a. conflicts_in (old_at a) m.own.number kind (wrote m a (old_at a))) (sym same.1) ∙ c in
           let other : Conflicts (old_at p) t Write (wrote m p (old_at p)) = (k, record { another = ne; stood = bit }) in
@@ -438,15 +429,14 @@ module _ (turns : ThreadLaws) (laws : ShadowLaws) (cell_laws : CellsAreThere) (x
   check_fine Write c site is = let f : Fine x code ls m.at.pc (ls.at m.at.pc) (Instr.ChkWrite c site) = subst (Fine x code ls m.at.pc (ls.at m.at.pc)) is (wt.fine m.at.pc) in (f.1.0, f.1.1)
 
   check_hold : (kind : Kind) (c : Cell) (site : ℕ) → i ≡ check_of kind c site → OnHold (g.threads tr.thread).own.stage
-  check_hold kind c site is = rests_hold code s st.elements world st.heap g.words t m (check_of kind c site) m.own.stage (one kind)
+  check_hold kind c site is = rests_hold code s st.elements world st.heap g.words t m (check_of kind c site) m.own.stage (single_check kind c site)
       (subst (λ i. StageStands code s st.elements world st.heap g.words t m i m.own.stage) is ((st.threads t).runs on.0 on.1).stage)
-    where
-      one : (kind : Kind) → Rattle.sharc_history_laws.proofs.Single.single (check_of kind c site) ≡ true
-      one Read = refl
-      one Write = refl
 
   pub record IsGranule (p : ℕ) : Type 0 where
+    pub cell : Cell
+    pub hold : OnHold (g.threads tr.thread).own.stage
     pub object : ℕ
+    pub object_is : object ≡ object_of_cell (g.threads tr.thread) cell
     pub index : ℕ
     pub live : (world.obj object).live ≡ true
     pub inside : 2 * index < st.cells object
@@ -456,14 +446,15 @@ module _ (turns : ThreadLaws) (laws : ShadowLaws) (cell_laws : CellsAreThere) (x
   checked_granule kind p site at =
       let c = at.cell in
       let f = check_fine kind c site at.is in
-      let th = there x code s ls wt fits g world st t on (check_hold kind c site at.is) cell_laws c f.0 f.1 in
+      let hold = check_hold kind c site at.is in
+      let th = there x code s ls wt fits g world st t on hold cell_laws c f.0 f.1 in
       let o = object_of_cell m c in
       let n = number_in m c in
       let lt = th.number in
       let inside : 2 * (n / 2) < st.cells o = omega (arith, lt) in
       let within = st.apart.within o (n / 2) th.live inside in
       let half : granule_of (place m c) ≡ o + 1 + n / 2 = halves (place m c) o n th.place_is in
-      record { object = o; index = n / 2; live = th.live; inside = inside; is = at.granule ∙ ap (granule_at s) half ∙ at_low s (o + 1 + n / 2) within }
+      record { cell = c; hold = hold; object = o; object_is = refl; index = n / 2; live = th.live; inside = inside; is = at.granule ∙ ap (granule_at s) half ∙ at_low s (o + 1 + n / 2) within }
     where
       halves : (p o n : ℕ) → p ≡ 2 * (o + 1) + n → p / 2 ≡ o + 1 + n / 2
       halves p o n e = omega arith

@@ -1,5 +1,5 @@
 -- Each access of a run of typed code is to a live object, by its owner where the cell is private, and no write under mode readonly.
-use Rattle.sharc_history_laws.proofs.{Imports.{◌≡◌, ℕ, ◌^◌, ◌<◌, ◌≢◌, ◌⊎◌, inl, inr, Bool, true, false, ◌||◌, List, [], ◌∷◌, reverse, Option, Some, None, refl, sym, ap, ◌∙◌, subst, ⊎_elim, arith, cases_eq, nat_tests, ◌==◌, SourceEvent, CellMode, Object, NewStage, Code, Cell, Instr, Shape, Stage, Makes, Uncounts, RunLaws, Fits, Machine, ref, opening_words, Said, Turn, Global, IsRun, MayTurn, after_turn, put, result_of, with_told, opening_of, one_thread, bounds, place_after, Erase, said, cell_at, place_at, said_now, told_in, table_of, Access, makes, gives, frees, begins, is_number, made_by, given_by, History, IsAccess, is_owner, Targets, Field, FieldMode, field_in, mode_in, Labels, IsWellTyped, ObjectState, World, CanBy, lang_of, CellIsThere, objects_behind, made_behind, new_behind, freed_behind, objects_now, owned, gone, type_held, IsSmall, OnHold, object_of_cell, number_in, IsOn, Keeps, CodeBegins, CellsAreThere, PointersAreThere, AccessesAreAllowed, history_of, same_is as eq_refl, or_left, or_right, or_no, is_access}, TurnAt.{turn_at, told_at, turn_stands, RunOf}, Single.{single, rests_hold}, Stands.{live_low, known_ref, there, live_ref, sole_ref}, Tables.{header_at, header_in, header_of, was_live}, Consists.{Consists, consists_then, objects_then, given, header_built, built_low}, Acts.{access_said, thread_said, given_at, freed_in, freed_at, About, about, AreLow, no_access, access_at, IsAccess as TellsAccess, access_of}, Lists.{Newest, EachAccess, no_event, each_push, live_in, owned_in, is_live_in, owned_is, live_made, live_other, owned_begun, owned_other}, Modes.{private_field, readonly_field}, Carried.{put_same, put_other}}
+use Rattle.sharc_history_laws.proofs.{Imports.{◌≡◌, ℕ, ◌^◌, ◌<◌, ◌≢◌, ◌⊎◌, inl, inr, true, false, List, [], ◌∷◌, reverse, Option, Some, None, refl, sym, ap, ◌∙◌, subst, ⊎_elim, arith, cases_eq, nat_tests, ◌==◌, SourceEvent, CellMode, Object, NewStage, Code, Cell, Instr, Shape, Stage, Makes, Uncounts, RunLaws, Fits, Machine, ref, opening_words, Said, Turn, Global, IsRun, MayTurn, after_turn, put, result_of, with_told, opening_of, one_thread, bounds, place_after, Erase, said, cell_at, place_at, said_now, told_in, table_of, Access, makes, gives, frees, begins, is_number, made_by, given_by, History, IsAccess, is_owner, Targets, Field, FieldMode, field_in, mode_in, Labels, IsWellTyped, ObjectState, CanBy, lang_of, CellIsThere, objects_behind, made_behind, new_behind, freed_behind, objects_now, owned, gone, type_held, IsSmall, OnHold, object_of_cell, number_in, IsOn, Keeps, CodeBegins, CellsAreThere, PointersAreThere, AccessesAreAllowed, history_of, same_is as eq_refl, or_left, or_right, or_no, is_access}, TurnAt.{turn_at, told_at, turn_stands, RunOf}, Single.{single, rests_hold}, Stands.{live_low, known_ref, there, live_ref, sole_ref}, Tables.{header_at, header_in, header_of, was_live}, Consists.{Consists, consists_then, objects_then, given, header_built, built_low}, Acts.{access_said, thread_said, given_at, freed_in, freed_at, About, about, AreLow, no_access, access_at, IsAccess as TellsAccess, access_of}, Lists.{Newest, Each, OfAccess, no_event, each_push, live_in, owned_in, is_live_in, owned_is, live_made, live_other, owned_begun, owned_other}, Modes.{private_field, readonly_field}, Carried.{put_same, put_other}}
 use Rattle.sharc_meaning.specs.{Events.freed_by, Obeys.IsThere}
 
 -- ---- numbers of objects
@@ -77,8 +77,8 @@ abbrev pub pushed : Option SourceEvent → Newest → Newest
 pushed None L = L
 pushed (Some e) L = e ∷ L
 
--- what holds of each access holds with one event more, if it holds of what that accesses
-pub each_pushed : (P : History → SourceEvent → Access → Type 0) (ev : Option SourceEvent) (L : Newest) → EachAccess P (reverse L) → ((e : SourceEvent) → ev ≡ Some e → (a : Access) → IsAccess e a → P (reverse L) e a) → EachAccess P (reverse (pushed ev L))
+-- what holds of each event holds with one event more, if it holds of that
+pub each_pushed : (P : History → SourceEvent → Type 0) (ev : Option SourceEvent) (L : Newest) → Each P (reverse L) → ((e : SourceEvent) → ev ≡ Some e → P (reverse L) e) → Each P (reverse (pushed ev L))
 each_pushed P None L old new = old
 each_pushed P (Some e) L old new = each_push P e L old (new e refl)
 
@@ -101,12 +101,8 @@ decide (Some k) n = ⊎_elim (λ (e : k ≡ n). inl (ap (λ j. Some j) e)) (λ (
 
 -- an access is one turn
 pub access_single : (j : Instr) → is_access j ≡ true → single j ≡ true
-access_single (Instr.Load r c site) e = refl
-access_single (Instr.Store r c site) e = refl
-access_single (Instr.LoadRef c site) e = refl
-access_single (Instr.Exchange r c site) e = refl
-access_single (Instr.TakeCell r c site) e = refl
-access_single _ e = absurd (cc)
+access_single (Instr.Load r c site) e = cc
+access_single _ e = cc
 
 -- ---- one turn
 module _ (cell_laws : CellsAreThere) (pointers : PointersAreThere) (rights : AccessesAreAllowed) (laws : RunLaws) (keeps : Keeps) (x : Targets) (code : Code) (s : Shape) (ls : Labels) (wt : IsWellTyped x code ls) (fits : Fits code s) (few : IsSmall code s)
@@ -301,7 +297,7 @@ module _ (cell_laws : CellsAreThere) (pointers : PointersAreThere) (laws : RunLa
 pub record Obeyed (x : Targets) (code : Code) (s : Shape) (ls : Labels) (run : List Turn) : Type 0 where
   pub consists : Consists x code s ls run
   pub objects : ObjectsTold (newest code s run) consists.world.obj
-  pub allowed : EachAccess AllowedAccess (history_of code s run)
+  pub allowed : Each (OfAccess AllowedAccess) (history_of code s run)
 
 module _ (cell_laws : CellsAreThere) (pointers : PointersAreThere) (rights : AccessesAreAllowed) (laws : RunLaws) (begins_law : CodeBegins) (keeps : Keeps) (x : Targets) (code : Code) (s : Shape) (ls : Labels) (wt : IsWellTyped x code ls) (fits : Fits code s) (few : IsSmall code s) where
   nothing_live : (o : ℕ) → o ≢ 0 → ((Rattle.sharc_invariant.specs.Opened.first_world x).obj o).live ≡ true → ⊥
@@ -312,8 +308,8 @@ module _ (cell_laws : CellsAreThere) (pointers : PointersAreThere) (rights : Acc
   pub obeyed : (run : List Turn) → IsRun bounds (one_thread code s) (opening_of bounds (one_thread code s) (opening_words code s)) run → Obeyed x code s ls run
   obeyed run is =
       let k = over_runs cell_laws pointers laws begins_law keeps x code s ls wt fits few
-      (λ run h L. record { objects : ObjectsTold L h.world.obj; allowed : EachAccess AllowedAccess (reverse L) })
-      (record { objects = record { live = λ n nz live. absurd (nothing_live n nz live); owner = λ n nz live. absurd (nothing_live n nz live) }; allowed = no_event AllowedAccess })
+      (λ run h L. record { objects : ObjectsTold L h.world.obj; allowed : Each (OfAccess AllowedAccess) (reverse L) })
+      (record { objects = record { live = λ n nz live. absurd (nothing_live n nz live); owner = λ n nz live. absurd (nothing_live n nz live) }; allowed = no_event (OfAccess AllowedAccess) })
       (λ one earlier h may _ old.
       let ev = said_now code (table_of code s earlier) ((place_after code s earlier).threads one.thread) (result_of one.event) in
       let L = newest code s earlier in
@@ -321,6 +317,6 @@ module _ (cell_laws : CellsAreThere) (pointers : PointersAreThere) (rights : Acc
       record {
         objects = objects_told cell_laws pointers rights laws keeps x code s ls wt fits few one earlier h may then'.world.obj (objects_then laws keeps cell_laws pointers x code s ls wt fits few one earlier h may) L old.objects ev
             (about_now cell_laws pointers rights laws keeps x code s ls wt fits few one earlier h may);
-        allowed = each_pushed AllowedAccess ev L old.allowed (λ e is a access. allowed_now cell_laws pointers rights laws keeps x code s ls wt fits few one earlier h may L old.objects e is a access);
+        allowed = each_pushed (OfAccess AllowedAccess) ev L old.allowed (λ e is a access. allowed_now cell_laws pointers rights laws keeps x code s ls wt fits few one earlier h may L old.objects e is a access);
       }) run is in
       record { consists = k.0; objects = k.1.objects; allowed = k.1.allowed }

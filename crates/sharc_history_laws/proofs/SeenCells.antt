@@ -1,5 +1,5 @@
 -- A pointer cell that refers to an object by the words does so by the events, but where a Free empties its object.
-use Rattle.sharc_history_laws.proofs.{Imports.{◌≡◌, ℕ, pos, zero, suc, ◌+◌, ◌*◌, ◌/◌, ◌^◌, ◌<◌, ◌≢◌, inl, inr, Bool, true, false, cond, not, ◌&&◌, List, [], ◌∷◌, refl, sym, ap, ◌∙◌, subst, ⊎_elim, arith, ltb-true, cases_Bool, and_parts, nat_tests, slice_index, nat_lt, ◌==◌, ◌%◌, CellAt, Object, Resolution, Code, Shape, RunLaws, Fits, granules, granule_at, words_of, first_cell, cell_word, cell_of, length_word, Machine, opening_words, IsInGlobal, Turn, Global, IsRun, result_of, opening_of, reference, one_thread, bounds, place_after, Elements, said_now, table_of, is_null, refers, value_after, Targets, Field, Content, Pointer, field_in, field_of_cell, global_field, globals_target, is_pointer, cells_of, Labels, IsWellTyped, CellOf, World, ObjectState, State, IsSmall, first_world, first_place, objects_after, objects_now, cells_now, is_pointer_now, cell_refers, Keeps, CodeBegins, CellsAreThere, PointersAreThere, AccessesAreAllowed, StateStands, history_of, BeginsWith, IsCellIn, IsLiveBy, IsBeingFreed, RefersBy, CellIsSeen, same_is as eq_refl, ne_zero}, Behind.{AreFirst, first_then}, Consists.{Consists, consists_then, objects_then, at_first, none_live}, Contents.{newest_value, value_is, value_held, IsCellOf, content_of, word_of_cell, Contents}, Emptying.IsEmptied, Lists.{Newest, is_live_in}, Locked.{Names, NamesIn}, OneMode.place_of, Opening.contents_first, Rules.{over_runs, ObjectsTold, newest, newest_now, about_now, objects_told}, Shared.{number_of, some_closing}, Stands.live_low, Unemptied.on_hold, Unwritten.{emptying, pointer_value}, Valued.contents_then}
+use Rattle.sharc_history_laws.proofs.{Imports.{◌≡◌, ℕ, pos, zero, suc, ◌+◌, ◌*◌, ◌/◌, ◌^◌, ◌<◌, ◌≢◌, inl, inr, Bool, true, false, cond, not, ◌&&◌, List, [], refl, sym, ap, ◌∙◌, subst, ⊎_elim, arith, ltb-true, cases_Bool, and_parts, nat_tests, slice_index, nat_lt, ◌==◌, ◌%◌, CellAt, Object, Resolution, Code, Shape, RunLaws, Fits, granules, granule_at, words_of, first_cell, cell_word, cell_of, length_word, Machine, opening_words, IsInGlobal, Turn, Global, IsRun, result_of, opening_of, reference, one_thread, bounds, place_after, Elements, said_now, table_of, is_null, refers, value_after, Targets, Field, Content, Pointer, field_in, field_of_cell, global_field, globals_target, is_pointer, cells_of, Labels, IsWellTyped, CellOf, World, ObjectState, State, IsSmall, first_world, first_place, objects_after, objects_now, cells_now, is_pointer_now, cell_refers, Keeps, CodeBegins, CellsAreThere, PointersAreThere, AccessesAreAllowed, StateStands, history_of, BeginsWith, IsCellIn, IsLiveBy, IsBeingFreed, RefersBy, CellIsSeen, same_is as eq_refl, ne_zero}, Behind.{AreFirst, first_then}, Consists.{Consists, consists_then, objects_then, none_live}, Contents.{newest_value, value_is, value_held, IsCellOf, content_of, word_of_cell, Contents}, Emptying.IsEmptied, Lists.is_live_in, Locked.{Names, NamesIn}, OneMode.place_of, Opening.contents_first, Rules.{over_runs, ObjectsTold, newest, about_now, objects_told}, Shared.{number_of, some_closing}, Stands.live_low, Unemptied.on_hold, Unwritten.{emptying, pointer_value}, Valued.contents_then}
 use Rattle.sharc_invariant.specs.Words as Words
 
 -- ---- references
@@ -92,6 +92,64 @@ freed state_law x code s ls wt fits g world st o p number z =
       clearing = y.emptying;
     }
 
+-- ---- a cell that is a pointer by the words
+module _ (x : Targets) (code : Code) (s : Shape) (ls : Labels) (r : Resolution) (run : List Turn) (k : Seen r x code s ls run) (p i : ℕ) (is : is_pointer_now x s (place_after code s run) k.consists.world.obj p i ≡ true) where
+  open k.consists use {world as w, state as there}
+
+  abbrev pub word : ℕ
+  word = slice_index (place_after code s run).words (Words.cell_at s p i)
+
+  parts : ((k.consists.world.obj p).live ≡ true) × ((nat_lt i (cells_now x s (place_after code s run) k.consists.world.obj p) && is_pointer (field_in x (k.consists.world.obj p).ty i).holds) ≡ true)
+  parts = and_parts (k.consists.world.obj p).live (nat_lt i (cells_now x s (place_after code s run) k.consists.world.obj p) && is_pointer (field_in x (k.consists.world.obj p).ty i).holds) is
+
+  inside_parts : (nat_lt i (cells_now x s (place_after code s run) k.consists.world.obj p) ≡ true) × (is_pointer (field_in x (k.consists.world.obj p).ty i).holds ≡ true)
+  inside_parts = and_parts (nat_lt i (cells_now x s (place_after code s run) k.consists.world.obj p)) (is_pointer (field_in x (k.consists.world.obj p).ty i).holds) parts.1
+
+  pub live : (k.consists.world.obj p).live ≡ true
+  live = parts.0
+
+  pub pointer : is_pointer (field_in x (k.consists.world.obj p).ty i).holds ≡ true
+  pointer = inside_parts.1
+
+  pub inside : i < k.consists.state.cells p
+  inside = subst (λ n. i < n) (cells_are x code s ls (place_after code s run) w there p live) (ltb-true i (cells_now x s (place_after code s run) w.obj p) inside_parts.0)
+
+  pub word_is : cell_refers x s (place_after code s run) k.consists.world.obj p i ≡ word
+  word_is =
+      let lt = inside in
+      ap (λ b. cond b (slice_index (place_after code s run).words (cell_word s (cell_of p i))) 0) is ∙ ap (λ w. slice_index (place_after code s run).words w) (cell_word_is s p i (there.apart.within p (i / 2) live (omega arith)))
+
+  module _ (c : CellAt) (at : IsCellIn code c.object c.cell p i) where
+    pub number : number_of c.object ≡ p
+    number = number_is code c.object c.cell p i at
+
+    place : place_of code c.object c.cell ≡ i
+    place = place_is code c.object c.cell p i at
+
+    content : content_of x code k.consists.world c ≡ (field_in x (k.consists.world.obj p).ty i).holds
+    content = ap (λ n. (field_in x (w.obj n).ty (place_of code c.object c.cell)).holds) number ∙ ap (λ j. (field_in x (w.obj p).ty j).holds) place
+
+    pub is_pointer_cell : is_pointer (content_of x code k.consists.world c) ≡ true
+    is_pointer_cell = ap is_pointer content ∙ pointer
+
+    pub cell : IsCellOf code k.consists.world k.consists.state.cells c
+    cell = record {
+      live = ap (λ n. (w.obj n).live) number ∙ live;
+      inside = subst (λ n. place_of code c.object c.cell < there.cells n) (sym number) (subst (λ j. j < there.cells p) (sym place) inside);
+      named = subst (λ n. Names code c n (2 * (n + 1) + place_of code c.object c.cell)) (sym number) (subst (λ j. Names code c p (2 * (p + 1) + j)) (sym place) (names code c c.object p i refl at));
+    }
+
+    same_word : slice_index (place_after code s run).words (word_of_cell code s c) ≡ word
+    same_word = ap (λ n. slice_index (place_after code s run).words (Words.cell_at s n (place_of code c.object c.cell))) number ∙ ap (λ j. slice_index (place_after code s run).words (Words.cell_at s p j)) place
+
+    -- what the events leave there
+    pub told_there : newest_value r (newest code s run) c ≡ value_held (content_of x code k.consists.world c) (table_of code s run) (slice_index (place_after code s run).words (word_of_cell code s c))
+        → value_after r (history_of code s run) c ≡ reference word (table_of code s run word)
+    told_there e =
+        let v = slice_index (place_after code s run).words (word_of_cell code s c) in
+        let T = table_of code s run in
+        value_is r (newest code s run) c ∙ e ∙ holds_reference (content_of x code w c) T v is_pointer_cell ∙ ap (λ v. reference v (T v)) same_word
+
 module _ (state_law : StateStands) (cell_laws : CellsAreThere) (pointers : PointersAreThere) (rights : AccessesAreAllowed) (laws : RunLaws) (begins_law : CodeBegins) (keeps : Keeps) (x : Targets) (code : Code) (s : Shape) (ls : Labels) (wt : IsWellTyped x code ls) (fits : Fits code s) (few : IsSmall code s)
     (r : Resolution) (first : BeginsWith r code) where
   pub seen : (run : List Turn) → IsRun bounds (one_thread code s) (opening_of bounds (one_thread code s) (opening_words code s)) run → Seen r x code s ls run
@@ -131,81 +189,38 @@ module _ (state_law : StateStands) (cell_laws : CellsAreThere) (pointers : Point
     is_there : b ≡ true
     is_there = ⊎_elim (λ (e : b ≡ true). e) (λ (e : b ≡ false). absurd (nz (sym is ∙ ap (λ b. cond b (slice_index (place_after code s run).words (cell_word s (cell_of p i))) 0) e))) (cases_Bool b)
 
-    parts : ((k.consists.world.obj p).live ≡ true) × ((nat_lt i (cells_now x s (place_after code s run) k.consists.world.obj p) && is_pointer (field_in x (k.consists.world.obj p).ty i).holds) ≡ true)
-    parts = and_parts (k.consists.world.obj p).live (nat_lt i (cells_now x s (place_after code s run) k.consists.world.obj p) && is_pointer (field_in x (k.consists.world.obj p).ty i).holds) is_there
-
-    inside_parts : (nat_lt i (cells_now x s (place_after code s run) k.consists.world.obj p) ≡ true) × (is_pointer (field_in x (k.consists.world.obj p).ty i).holds ≡ true)
-    inside_parts = and_parts (nat_lt i (cells_now x s (place_after code s run) k.consists.world.obj p)) (is_pointer (field_in x (k.consists.world.obj p).ty i).holds) parts.1
-
-    live : (k.consists.world.obj p).live ≡ true
-    live = parts.0
-
-    pub pointer : is_pointer (field_in x (k.consists.world.obj p).ty i).holds ≡ true
-    pointer = inside_parts.1
-
-    inside : i < k.consists.state.cells p
-    inside = subst (λ n. i < n) (cells_are x code s ls g world st p live) (ltb-true i (cells_now x s g world.obj p) inside_parts.0)
-
-    word_is : slice_index (place_after code s run).words (Words.cell_at s p i) ≡ o
-    word_is =
-        let lt = inside in
-        ap (λ w. slice_index g.words w) (sym (cell_word_is s p i (st.apart.within p (i / 2) live (omega arith))))
-        ∙ sym (ap (λ b. cond b (slice_index g.words (cell_word s (cell_of p i))) 0) is_there) ∙ is
+    stored : slice_index (place_after code s run).words (Words.cell_at s p i) ≡ o
+    stored = sym (word_is x code s ls r run k p i is_there) ∙ is
 
     -- the object that it refers to is live, so its number is low
     low : o < 2 ^ 32
     low =
-        let e : (world.slots (CellOf p i)).reference ≡ o = st.sim.pointers p i live inside pointer ∙ word_is in
+        let e : (world.slots (CellOf p i)).reference ≡ o = st.sim.pointers p i (live x code s ls r run k p i is_there) (inside x code s ls r run k p i is_there) (pointer x code s ls r run k p i is_there) ∙ stored in
         let f = st.inv.words.fits (CellOf p i) (λ z. nz (sym e ∙ z)) in
         let lt = live_low x code s ls wt fits g world st o (subst (λ o. (world.obj o).live ≡ true) e f.live) in
         omega arith
 
     module _ (c : CellAt) (at : IsCellIn code c.object c.cell p i) where
-      number : number_of c.object ≡ p
-      number = number_is code c.object c.cell p i at
-
-      place : place_of code c.object c.cell ≡ i
-      place = place_is code c.object c.cell p i at
-
-      content : content_of x code k.consists.world c ≡ (field_in x (k.consists.world.obj p).ty i).holds
-      content = ap (λ n. (field_in x (world.obj n).ty (place_of code c.object c.cell)).holds) number ∙ ap (λ j. (field_in x (world.obj p).ty j).holds) place
-
-      is_pointer_cell : is_pointer (content_of x code k.consists.world c) ≡ true
-      is_pointer_cell = ap is_pointer content ∙ pointer
-
-      cell : IsCellOf code k.consists.world k.consists.state.cells c
-      cell = record {
-        live = ap (λ n. (world.obj n).live) number ∙ live;
-        inside = subst (λ n. place_of code c.object c.cell < st.cells n) (sym number) (subst (λ j. j < st.cells p) (sym place) inside);
-        named = subst (λ n. Names code c n (2 * (n + 1) + place_of code c.object c.cell)) (sym number) (subst (λ j. Names code c p (2 * (p + 1) + j)) (sym place) (names code c c.object p i refl at));
-      }
-
-      word : slice_index (place_after code s run).words (word_of_cell code s c) ≡ o
-      word = ap (λ n. slice_index g.words (Words.cell_at s n (place_of code c.object c.cell))) number ∙ ap (λ j. slice_index g.words (Words.cell_at s p j)) place ∙ word_is
-
       by_value : newest_value r (newest code s run) c ≡ value_held (content_of x code k.consists.world c) (table_of code s run) (slice_index (place_after code s run).words (word_of_cell code s c))
           → refers o (value_after r (history_of code s run) c) ≡ true
       by_value e =
-          let v = slice_index g.words (word_of_cell code s c) in
           let T = table_of code s run in
-          let q : value_after r (history_of code s run) c ≡ reference o (T o) =
-          value_is r (newest code s run) c ∙ e ∙ holds_reference (content_of x code world c) T v is_pointer_cell ∙ ap (λ v. reference v (T v)) word in
-          ap (refers o) q ∙ back o (T o) nz low
+          ap (refers o) (told_there x code s ls r run k p i is_there c at e ∙ ap (λ v. reference v (T v)) stored) ∙ back o (T o) nz low
 
       live_by : IsLiveBy (history_of code s run) c.object
       live_by = by c.object at
         where
           by : (a : Object) → IsCellIn code a c.cell p i → IsLiveBy (history_of code s run) a
           by (Object.Global q) h = tt
-          by (Object.Made n) h = subst (λ n. IsLiveBy (history_of code s run) (Object.Made n)) (sym h.0) (is_live_in (newest code s run) p ∙ k.objects.live p h.1 live)
+          by (Object.Made n) h = subst (λ n. IsLiveBy (history_of code s run) (Object.Made n)) (sym h.0) (is_live_in (newest code s run) p ∙ k.objects.live p h.1 (live x code s ls r run k p i is_there))
 
       by_events : RefersBy r code (place_after code s run) (history_of code s run) c p o
       by_events = record {
         live = live_by;
         refers_there = ⊎_elim
             (λ (e : newest_value r (newest code s run) c ≡ value_held (content_of x code world c) (table_of code s run) (slice_index g.words (word_of_cell code s c))). inl (by_value e))
-            (λ (z : IsEmptied code g (number_of c.object)). inr (freed state_law x code s ls wt fits g world st (number_of c.object) p number z))
-            (k.contents c cell (pointer_value (content_of x code world c) is_pointer_cell));
+            (λ (z : IsEmptied code g (number_of c.object)). inr (freed state_law x code s ls wt fits g world st (number_of c.object) p (number x code s ls r run k p i is_there c at) z))
+            (k.contents c (cell x code s ls r run k p i is_there c at) (pointer_value (content_of x code world c) (is_pointer_cell x code s ls r run k p i is_there c at)));
       }
 
     -- a cell of the globals has a field of theirs
@@ -213,10 +228,10 @@ module _ (state_law : StateStands) (cell_laws : CellsAreThere) (pointers : Point
     global z =
         let own : (world.obj p).ty.target ≡ globals_target x = ap (λ n. (world.obj n).ty.target) z ∙ ap (λ (q : ObjectState). q.ty.target) st.globals in
         let is : ((world.obj p).ty.target == globals_target x) ≡ true = ap (λ n. n == globals_target x) own ∙ eq_refl (globals_target x) in
-        ap (λ b. is_pointer (elim b as (λ b. Field) [ true ↦ global_field x i | false ↦ field_of_cell x (k.consists.world.obj p).ty.target i ]).holds) (sym is) ∙ pointer
+        ap (λ b. is_pointer (elim b as (λ b. Field) [ true ↦ global_field x i | false ↦ field_of_cell x (k.consists.world.obj p).ty.target i ]).holds) (sym is) ∙ pointer x code s ls r run k p i is_there
 
     pub cell_seen : CellIsSeen r x code (place_after code s run) k.consists.world.obj (history_of code s run) p i o
-    cell_seen = record { pointer = pointer; global = global; by_events = by_events }
+    cell_seen = record { pointer = pointer x code s ls r run k p i is_there; global = global; by_events = by_events }
 
   -- by the objects of the turns
   pub cells_seen : (run : List Turn) → IsRun bounds (one_thread code s) (opening_of bounds (one_thread code s) (opening_words code s)) run → (p i o : ℕ) → o ≢ 0

@@ -1,5 +1,5 @@
 -- No access set of a run of typed code holds accesses of two threads of which one writes.
-use Rattle.sharc_history_laws.proofs.{Imports.{◌≡◌, ℕ, ◌+◌, ◌-◌, ◌*◌, ◌/◌, ◌≤◌, ◌≢◌, ◌⊎◌, inl, inr, Bool, true, false, ◌||◌, ◌&&◌, List, [], ◌∷◌, Option, Some, None, refl, sym, ap, ◌∙◌, subst, ⊎_elim, arith, cases_eq, nat_tests, ◌==◌, slice_index, slice_index_or, Act, SourceEvent, Object, CellMode, Code, Cell, Instr, Shape, Stage, Rests, Makes, Uncounts, Links, Withdraws, WithdrawsFrom, Leaves, RunLaws, Fits, Machine, instr_at, ref, place, act, opening_words, is_exit, turn, after, may_go, Turn, Global, IsRun, MayTurn, after_turn, put, state_now, result_of, opening_of, one_thread, bounds, place_after, said, cell_at, place_at, in_exit, no_global, TurnState, said_now, table_of, Access, granule_in as granule_of, makes, gives, begins, is_of, access_by, until_return, ends, Passed, Targets, Field, FieldMode, Gate, Holds, Loaded, HoldsLoaded, Sole, Labels, IsWellTyped, IsNotSole, RegisterOf, ObjectState, Shut, IsSole, World, WinOk, in_ref, lang_of, has_returned, is_withdrawing, is_ended, Closing, Without, changes_objects, makes_object, frees_object, objects_behind, State, Runs, IsSmall, StageStands, GateStands, StopStands, OnHold, OnExit, object_of_cell, number_in, label_now, size_of_run, IsOn, MachineInvariant, IsAlone, WindowStands, label_of, Keeps, CodeBegins, CellsAreThere, PointersAreThere, AccessesAreAllowed, StateStands, yes, is_access}, TurnAt.{turn_at, told_at, turn_stands}, Single.{rests_hold}, Stands.{register_is, gate, reads_ref}, Finds.is_there, Tables.{header_of, was_live}, Consists.{Consists, consists_then, objects_then, effect_then, given, at_first}, Acts.{access_said, thread_said, given_at, freed_in, freed_at, About, no_access, access_at, IsAccess as TellsAccess, access_of}, Lists.Newest, Modes.dynamic_field, Rules.{pushed, newest, newest_now, number_is, about_now, hold_access, cell_is, can_mode, freed_gone, number_yes, access_single}, Sets.{IsHere, Goes, InSet, NoConflict, Clean}, Carried.{Stands, carried, put_same, put_other}, Outcomes.{unended, withdraws_still}, Threaded.or_left}
+use Rattle.sharc_history_laws.proofs.{Imports.{◌≡◌, ℕ, ◌+◌, ◌-◌, ◌*◌, ◌/◌, ◌≤◌, ◌≢◌, ◌⊎◌, inl, inr, Bool, true, false, ◌||◌, ◌&&◌, List, [], ◌∷◌, Option, Some, None, refl, sym, ap, ◌∙◌, subst, ⊎_elim, arith, cases_eq, nat_tests, ◌==◌, slice_index, slice_index_or, Act, SourceEvent, Object, CellMode, Code, Cell, Instr, Shape, Stage, Rests, Makes, Uncounts, Links, Withdraws, WithdrawsFrom, Leaves, RunLaws, Fits, Machine, instr_at, ref, place, act, opening_words, is_exit, turn, after, may_go, Turn, Global, IsRun, MayTurn, after_turn, put, state_now, result_of, opening_of, one_thread, bounds, place_after, said, cell_at, place_at, in_exit, no_global, said_now, table_of, Access, granule_in as granule_of, makes, gives, begins, is_of, access_by, until_return, ends, Passed, Targets, Field, FieldMode, Gate, Holds, Loaded, HoldsLoaded, Sole, Labels, IsWellTyped, IsNotSole, RegisterOf, ObjectState, Shut, IsSole, World, WinOk, in_ref, lang_of, has_returned, is_withdrawing, is_ended, Closing, Without, changes_objects, makes_object, frees_object, objects_behind, State, Runs, IsSmall, StageStands, GateStands, StopStands, OnHold, OnExit, object_of_cell, number_in, label_now, size_of_run, IsOn, MachineInvariant, IsAlone, WindowStands, label_of, Keeps, CodeBegins, CellsAreThere, PointersAreThere, AccessesAreAllowed, StateStands, yes, is_access, or_right, not_false}, TurnAt.{turn_at, told_at, turn_stands}, Single.rests_hold, Stands.{register_is, gate, reads_ref}, Finds.is_there, Tables.{header_of, was_live}, Consists.{Consists, consists_then, objects_then, effect_then, given}, Acts.{access_said, thread_said, given_at, freed_in, freed_at, About, no_access, access_at, IsAccess as TellsAccess, access_of}, Lists.Newest, Modes.dynamic_field, Rules.{over_runs, pushed, newest, number_is, about_now, hold_access, cell_is, can_mode, freed_gone, number_yes, access_single}, Sets.{IsHere, Goes, InSet, NoConflict, Clean}, Carried.{Stands, carried, put_same, put_other}, Outcomes.{unended, withdraws_still, going_on}, Threaded.or_left}
 
 -- ---- objects and granules as the world has them
 abbrev pub number_of : Object → ℕ
@@ -98,10 +98,7 @@ module _ (state_law : StateStands) (cell_laws : CellsAreThere) (pointers : Point
   -- ---- the access of the turn
   module _ (e : SourceEvent) (said_is : said code i ((place_after code s earlier).threads one.thread) found elements ≡ Some e) (o : Object) (granule u : ℕ) (write : Bool) (here : IsHere e o granule u write) where
     access : is_access i ≡ true
-    access = elim (is_access i) as (λ b. is_access i ≡ b → b ≡ true) [
-      | true ↦ λ z. refl
-      | false ↦ λ z. absurd (let f : None ≡ Some here.access = sym (no_access code m laws.turns.tells i found elements z) ∙ ap access_said said_is ∙ here.is in cc)
-    ] refl
+    access = not_false (is_access i) (λ z. let f : None ≡ Some here.access = sym (no_access code m laws.turns.tells i found elements z) ∙ ap access_said said_is ∙ here.is in cc)
 
     hold : OnHold ((place_after code s earlier).threads one.thread).own.stage
     hold = hold_access cell_laws pointers rights laws keeps x code s ls wt fits few one earlier h may access
@@ -125,6 +122,12 @@ module _ (state_law : StateStands) (cell_laws : CellsAreThere) (pointers : Point
     write_is = ap (λ (a : Access). a.is_write) same_access ∙ here.kind
 
     -- where it is in the world
+    in_globals : (p granule : ℕ) → 1 ≤ granule → 2 * granule ≤ p → (p - 2 * granule) / 2 + granule - 1 ≡ (p - 2 * (0 + 1)) / 2
+    in_globals p granule low from = omega arith
+
+    in_object : (o p : ℕ) → p / 2 ≡ (2 * (o + 1) + p - 2 * (o + 1)) / 2
+    in_object o p = omega arith
+
     at_place : (c : Cell) (f : Field) → Rattle.sharc_invariant.specs.Typed.HasCell x code (ls.at ((place_after code s earlier).threads one.thread).at.pc) c f
         → (number_of (cell_at code ((place_after code s earlier).threads one.thread) c).object ≡ object_of_cell ((place_after code s earlier).threads one.thread) c)
         × (index_of code (cell_at code ((place_after code s earlier).threads one.thread) c).object (granule_of (cell_at code ((place_after code s earlier).threads one.thread) c)) ≡ number_in ((place_after code s earlier).threads one.thread) c / 2)
@@ -132,26 +135,14 @@ module _ (state_law : StateStands) (cell_laws : CellsAreThere) (pointers : Point
         let there = is_there cell_laws x code s ls wt fits g world h.state t on hold (Cell.Global q p) f c.field refl in
         let low = wt.globals.low q there.known in
         let from = there.low in
-        (refl, halves p (slice_index_or code.globals.items q no_global).granule low from)
-      where
-        halves : (p granule : ℕ) → 1 ≤ granule → 2 * granule ≤ p → (p - 2 * granule) / 2 + granule - 1 ≡ (p - 2 * (0 + 1)) / 2
-        halves p granule low from = omega arith
+        (refl, in_globals p (slice_index_or code.globals.items q no_global).granule low from)
     at_place (Cell.GlobalAt q r) f c =
         let there = is_there cell_laws x code s ls wt fits g world h.state t on hold (Cell.GlobalAt q r) f c.field refl in
         let low = wt.globals.low q there.known in
         let from = there.low in
-        (refl, halves (place m (Cell.GlobalAt q r)) (slice_index_or code.globals.items q no_global).granule low from)
-      where
-        halves : (p granule : ℕ) → 1 ≤ granule → 2 * granule ≤ p → (p - 2 * granule) / 2 + granule - 1 ≡ (p - 2 * (0 + 1)) / 2
-        halves p granule low from = omega arith
-    at_place (Cell.Object r p) f c = (refl, within (ref m r) p)
-      where
-        within : (o p : ℕ) → p / 2 ≡ (2 * (o + 1) + p - 2 * (o + 1)) / 2
-        within o p = omega arith
-    at_place (Cell.ObjectAt r q) f c = (refl, within (ref m r) (Rattle.sharc_code.specs.Arithmetic.word_of (Rattle.sharc_code.specs.Machine.int m q)))
-      where
-        within : (o p : ℕ) → p / 2 ≡ (2 * (o + 1) + p - 2 * (o + 1)) / 2
-        within o p = omega arith
+        (refl, in_globals (place m (Cell.GlobalAt q r)) (slice_index_or code.globals.items q no_global).granule low from)
+    at_place (Cell.Object r p) f c = (refl, in_object (ref m r) p)
+    at_place (Cell.ObjectAt r q) f c = (refl, in_object (ref m r) (Rattle.sharc_code.specs.Arithmetic.word_of (Rattle.sharc_code.specs.Machine.int m q)))
 
     abbrev n : ℕ
     n = object_of_cell ((place_after code s earlier).threads one.thread) k.cell
@@ -196,20 +187,12 @@ module _ (state_law : StateStands) (cell_laws : CellsAreThere) (pointers : Point
     not_returned =
         let rest : m.own.stage ≡ Rests = Rattle.sharc_history_laws.proofs.Single.single_rests code s h.state.elements world h.state.heap g.words t m i m.own.stage (access_single i access) rn.stage in
         ap (λ y. is_withdrawing y || is_ended m.at.state) rest ∙ going_on m.at.state may.next.runs
-      where
-        going_on : (y : _) → may_go y ≡ true → is_ended y ≡ false
-        going_on TurnState.Ended e = absurd (cc)
-        going_on _ e = refl
 
     not_changing : changes_objects i ((place_after code s earlier).threads one.thread) ≡ true → ⊥
     not_changing e = by i access e
       where
         by : (j : Instr) → is_access j ≡ true → changes_objects j ((place_after code s earlier).threads one.thread) ≡ true → ⊥
         by (Instr.Load r c site) a e = cc
-        by (Instr.Store r c site) a e = cc
-        by (Instr.LoadRef c site) a e = cc
-        by (Instr.Exchange r c site) a e = cc
-        by (Instr.TakeCell r c site) a e = cc
         by _ a e = cc
 
     -- what it passed stands after the turn
@@ -345,15 +328,11 @@ module _ (state_law : StateStands) (cell_laws : CellsAreThere) (pointers : Point
           (λ (old : (begins o d ≡ false) × Goes d v × InSet L o granule v kind). beside d e o granule u v true kind mine old.2 refl)
           b)
           (λ (mine : (begins o d ≡ false) × Goes d u × InSet L o granule u true). ⊎_elim
-          (λ (other : IsHere d o granule v kind). sym (beside d e o granule v u kind true other mine.2 (or_true kind)))
+          (λ (other : IsHere d o granule v kind). sym (beside d e o granule v u kind true other mine.2 (or_right kind true refl)))
           (λ (old : (begins o d ≡ false) × Goes d v × InSet L o granule v kind). clean.none o granule u v kind mine.2 old.2)
           b)
           a;
     }
-      where
-        or_true : (b : Bool) → (b || true) ≡ true
-        or_true true = refl
-        or_true false = refl
 
     -- ---- threads that have returned
     abbrev x' : Machine
@@ -454,27 +433,21 @@ module _ (state_law : StateStands) (cell_laws : CellsAreThere) (pointers : Point
   clean_pushed (Some d) L old new = (new d refl, old)
 
   pub shares : (run : List Turn) → IsRun bounds (one_thread code s) (opening_of bounds (one_thread code s) (opening_words code s)) run → Shares x code s ls run
-  shares [] run = record {
-    consists = at_first begins_law x code s ls wt fits;
-    stands = λ o granule u write is. absurd is;
-    returned = λ u is o granule write member. member;
-    clean = tt;
-  }
-  shares (one ∷ earlier) run =
-      let old = shares earlier run.0 in
-      let h = old.consists in
-      let may = run.1 in
-      let g = place_after code s earlier in
-      let ev = said_now code (table_of code s earlier) (g.threads one.thread) (result_of one.event) in
+  shares run is =
+      let k = over_runs cell_laws pointers laws begins_law keeps x code s ls wt fits few
+      (λ run h L. record {
+        stands : (o : Object) (granule u : ℕ) (write : Bool) → InSet L o granule u write → Stands h.world (number_of o) (index_of code o granule) u write;
+        returned : (u : ℕ) → has_returned ((place_after code s run).threads u) ≡ true → (o : Object) (granule : ℕ) (write : Bool) → InSet L o granule u write → ⊥;
+        clean : Clean L;
+      })
+      (record { stands = λ o granule u write is. absurd is; returned = λ u is o granule write member. member; clean = tt })
+      (λ one earlier h may _ old.
+      let ev = said_now code (table_of code s earlier) ((place_after code s earlier).threads one.thread) (result_of one.event) in
       let L = newest code s earlier in
-      let now = newest_now code s one earlier in
-      let then' = consists_then laws keeps cell_laws pointers x code s ls wt fits few one earlier h may in
       record {
-        consists = then';
-        stands = subst (λ (L : Newest). (o : Object) (granule u : ℕ) (write : Bool) → InSet L o granule u write → Stands then'.world (number_of o) (index_of code o granule) u write) (sym now)
-            (stands_then state_law cell_laws pointers rights laws keeps x code s ls wt fits few one earlier h may L old.stands old.returned ev refl);
-        returned = subst (λ (L : Newest). (u : ℕ) → has_returned ((place_after code s (one ∷ earlier)).threads u) ≡ true → (o : Object) (granule : ℕ) (write : Bool) → InSet L o granule u write → ⊥) (sym now)
-            (returned_then state_law cell_laws pointers rights laws keeps x code s ls wt fits few one earlier h may L old.stands old.returned ev refl);
-        clean = subst Clean (sym now) (clean_pushed ev L old.clean
-            (λ d e. clean_then state_law cell_laws pointers rights laws keeps x code s ls wt fits few one earlier h may L old.stands old.returned (Rattle.sharc_history_laws.proofs.Sets.clean_now L old.clean) d e));
-      }
+        stands = stands_then state_law cell_laws pointers rights laws keeps x code s ls wt fits few one earlier h may L old.stands old.returned ev refl;
+        returned = returned_then state_law cell_laws pointers rights laws keeps x code s ls wt fits few one earlier h may L old.stands old.returned ev refl;
+        clean = clean_pushed ev L old.clean
+            (λ d e. clean_then state_law cell_laws pointers rights laws keeps x code s ls wt fits few one earlier h may L old.stands old.returned (Rattle.sharc_history_laws.proofs.Sets.clean_now L old.clean) d e);
+      }) run is in
+      record { consists = k.0; stands = k.1.stands; returned = k.1.returned; clean = k.1.clean }

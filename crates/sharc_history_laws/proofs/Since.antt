@@ -1,5 +1,5 @@
 -- Accesses of a cell since its object was made or given, by a history with its newest event first.
-use Rattle.sharc_history_laws.proofs.{Imports.{◌≡◌, false, ◌||◌, [], ◌∷◌, ◌++◌, reverse, refl, sym, ap, ◌∙◌, subst, ◌⊎◌, inl, inr, list_any, SourceEvent, CellAt, CellMode, Access, begins, frees, History, IsAccess, UnderOneMode}, Lists.{Newest, EachAccess, Split, Last, Earlier, split}, Sets.any_append, Broken.append_assoc}
+use Rattle.sharc_history_laws.proofs.{Imports.{◌≡◌, false, ◌||◌, [], ◌∷◌, ◌++◌, reverse, refl, sym, ap, ◌∙◌, subst, ◌⊎◌, inl, inr, list_any, SourceEvent, CellAt, CellMode, Access, begins, frees, History, IsAccess, UnderOneMode}, Lists.{Newest, Each, OfAccess, Split, Last, Earlier, split}, Sets.any_append, Broken.append_assoc}
 
 pub record IsTo (e : SourceEvent) (c : CellAt) (mode : CellMode) : Type 0 where
   pub access : Access
@@ -34,6 +34,6 @@ AsBefore before e b = (first : History) (d : SourceEvent) (between : History) (a
 pub as_before : (L : Newest) (e : SourceEvent) (b : Access) → ((mode : CellMode) → Since L b.cell mode → mode ≡ b.mode) → AsBefore (reverse L) e b
 as_before L e b h first d between a q is same none = h a.mode (subst (λ c. Since L c a.mode) same (since_split L first d between a q is none))
 
-pub one_mode : (R : History) → EachAccess AsBefore R → UnderOneMode R
+pub one_mode : (R : History) → Each (OfAccess AsBefore) R → UnderOneMode R
 one_mode R h before d between e after a b q is_a is_b same none =
-    h (before ++ d ∷ between) e after b (q ∙ sym (append_assoc before (d ∷ between) (e ∷ after))) is_b before d between a refl is_a same none
+    h (before ++ d ∷ between) e after (q ∙ sym (append_assoc before (d ∷ between) (e ∷ after))) b is_b before d between a refl is_a same none

@@ -5,6 +5,21 @@ above : (k : ℕ) → (k ≡ 0 → ⊥) → 1 ≤ k
 above zero nz = absurd (nz refl)
 above (suc k) nz = omega arith
 
+-- ---- what a machine has is of its thread's last turn, or was there before
+module _ (code : Code) (s : Shape) (Q : Machine → Type 0) (P : List Turn → ℕ → Type 0) (none : (t : ℕ) → Q ((place_after code s []).threads t) → P [] t)
+    (before : (one : Turn) (earlier : List Turn) (t : ℕ) → (t ≡ one.thread → ⊥) → P earlier t → P (one ∷ earlier) t)
+    (last : (one : Turn) (earlier : List Turn) → RunOf code s (one ∷ earlier) → (Q ((place_after code s earlier).threads one.thread) → P earlier one.thread)
+    → Q (after (turn code s ((place_after code s earlier).threads one.thread)) (result_of one.event)) → P (one ∷ earlier) one.thread) where
+  pub by_last_turn : (run : List Turn) → RunOf code s run → (t : ℕ) → Q ((place_after code s run).threads t) → P run t
+  by_last_turn [] run t q = none t q
+  by_last_turn (one ∷ earlier) run t q =
+      let g = place_after code s earlier in
+      let now = state_now (one_thread code s) g one in
+      ⊎_elim
+      (λ (same : t ≡ one.thread). subst (P (one ∷ earlier)) (sym same) (last one earlier run (by_last_turn earlier run.0 one.thread) (subst Q (put_same g.threads one.thread now) (subst (λ u. Q (put g.threads one.thread now u)) same q))))
+      (λ (ne : t ≡ one.thread → ⊥). before one earlier t ne (by_last_turn earlier run.0 t (subst Q (put_other g.threads one.thread t now ne) q)))
+      (cases_eq t one.thread)
+
 -- ---- sums
 some_of : (n : ℕ) (f : ℕ → ℕ) → ((i : ℕ) × (i < n) × (1 ≤ f i)) ⊎ (sum_to n f ≡ 0)
 some_of zero f = inr refl
@@ -191,12 +206,5 @@ module _ (outs : TurnsComeOut) (tests : RunsTest) (x : Targets) (code : Code) (s
   }
 
   pub casts_show : (run : List Turn) → RunOf code s run → (t site count : ℕ) → ((place_after code s run).threads t).own.stop ≡ Some (NotSole site count) → FindsOthers x code s ls run t site count
-  casts_show [] run t site count is = absurd (let f : None ≡ Some (NotSole site count) = is in cc)
-  casts_show (one ∷ earlier) run t site count is =
-      let g = place_after code s earlier in
-      let now = state_now (one_thread code s) g one in
-      ⊎_elim
-      (λ (same : t ≡ one.thread). subst (λ t. FindsOthers x code s ls (one ∷ earlier) t site count) (sym same)
-      (finds_others one earlier run site count (ap (λ (y : Machine). y.own.stop) (sym (put_same g.threads one.thread now)) ∙ ap (λ u. (put g.threads one.thread now u).own.stop) (sym same) ∙ is)))
-      (λ (ne : t ≡ one.thread → ⊥). further one earlier t site count (casts_show earlier run.0 t site count (ap (λ (y : Machine). y.own.stop) (sym (put_other g.threads one.thread t now ne)) ∙ is)))
-      (cases_eq t one.thread)
+  casts_show run is_run t site count = by_last_turn code s (λ y. y.own.stop ≡ Some (NotSole site count)) (λ run t. FindsOthers x code s ls run t site count) (λ t is. absurd (let f : None ≡ Some (NotSole site count) = is in cc))
+      (λ one earlier t _ k. further one earlier t site count k) (λ one earlier run _ is. finds_others one earlier run site count is) run is_run t

@@ -1,5 +1,5 @@
 -- A cell of a live object that is no mutex is written by no turn of typed code but that of an instruction that writes this cell, or of a Free that empties it.
-use Rattle.sharc_history_laws.proofs.{Imports.{◌≡◌, ℕ, ◌+◌, ◌*◌, ◌<◌, ◌≤◌, ◌≢◌, Bool, true, false, nat_lt, Some, refl, sym, ap, ◌∙◌, arith, ⊎_elim, cases_eq, cases_lt, nat_tests, WordStep, word_after, Code, Cell, Instr, Shape, Empties, Fits, granules, granule_at, count_word, first_cell, Machine, StepTurn as Turn, Local, Asks, ref, word, layout_at, instr_at, pointer_cell, turn, Global, Targets, Field, Content, Integer, MutexWord, Waiters, Pointer, field_in, Labels, IsWellTyped, HasCell, Accesses, World, Built, Live, State, OnHold, object_of_cell, number_in, IsOn, CellsAreThere, PointersAreThere}, Stands.there, Finds.same_object, Touches.{Change, Touched, Touches, is_mutex, some_size, touches, waited_cell, written_cell}}
+use Rattle.sharc_history_laws.proofs.{Imports.{◌≡◌, ℕ, ◌+◌, ◌*◌, ◌<◌, ◌≤◌, ◌≢◌, Bool, true, false, nat_lt, Some, refl, sym, ap, ◌∙◌, arith, ⊎_elim, cases_eq, cases_lt, nat_tests, WordStep, word_after, Code, Cell, Instr, Shape, Empties, Fits, granules, granule_at, count_word, first_cell, Machine, StepTurn as Turn, Local, Asks, ref, word, layout_at, instr_at, pointer_cell, turn, Global, Targets, Field, Content, Integer, MutexWord, Waiters, Pointer, field_in, Labels, IsWellTyped, HasCell, Accesses, World, Built, Live, State, OnHold, object_of_cell, number_in, IsOn, CellsAreThere, PointersAreThere, lt_of_le-ne}, Stands.there, Finds.same_object, Touches.{Change, Touched, Touches, is_mutex, some_size, touches, waited_cell, written_cell}}
 use Rattle.sharc_invariant.specs.Words.{cell_at}
 
 -- a step that leaves its word, or is on another one than this, where this does not hold
@@ -68,13 +68,10 @@ module _ (there_laws : CellsAreThere) (pointer_laws : PointersAreThere) (x : Tar
       (λ (same : b ≡ o). let f : Built t ≡ Live = sym built ∙ ap st.heap.state same ∙ state in absurd (let g : Built t ≡ Live = f in cc))
       (λ (ne : b ≡ o → ⊥). ⊎_elim
       (λ (less : b < o). let a = st.heap_stands.kept.blocks.apart b o nb no' less in omega arith)
-      (λ (ge : o ≤ b). let a = st.heap_stands.kept.blocks.apart o b no' nb (smaller o b ge (λ z. ne (sym z))) in omega arith)
+      (λ (ge : o ≤ b). let a = st.heap_stands.kept.blocks.apart o b no' nb (lt_of_le-ne ge (λ z. ne (sym z))) in omega arith)
       (cases_lt b o))
       (cases_eq b o))
       (cases_eq o 0)
-    where
-      smaller : (p o : ℕ) → p ≤ o → (p ≡ o → ⊥) → p < o
-      smaller p o le ne = ⊎_elim (λ (l : p < o). l) (λ (ge : o ≤ p). absurd (ne (omega arith))) (cases_lt p o)
 
   -- a cell that an instruction names
   apart : (c : Cell) (f : Field) → OnHold (g.threads t).own.stage → HasCell x code (ls.at (g.threads t).at.pc) c f → (object_of_cell (g.threads t) c ≡ o → number_in (g.threads t) c ≡ j → ⊥) → word s (g.threads t) c ≡ cell_at s o j → ⊥

@@ -1,5 +1,5 @@
 -- Which threads were started and have ended, at each place of a run.
-use Rattle.sharc_history_laws.proofs.{Imports.{◌≡◌, true, List, [], ◌∷◌, is_some, sym, ap, subst, arith, get_or-map-range_with_len, or_right, nat_eq, slice_index, Code, Shape, RunLaws, Fits, state_word, words_of, opening_words, opens_with, Turn, IsRun, is_started, opening_of, words_now, one_thread, bounds, place_after, Targets, Labels, Keeps, CodeBegins, CellsAreThere, PointersAreThere, AccessesAreAllowed, IsSmall, IsWellTyped, is_ended, ThreadsAreTold, yes}, Consists.{Consists, consists_then, at_first}, Lists.Newest, Logged.lacking, Rules.{newest, newest_now}, Threaded.{ThreadsTold, threads_then, nobody_yet}}
+use Rattle.sharc_history_laws.proofs.{Imports.{◌≡◌, true, List, [], ◌∷◌, is_some, ap, arith, get_or-map-range_with_len, or_right, nat_eq, slice_index, Code, Shape, RunLaws, Fits, state_word, words_of, opening_words, opens_with, Turn, IsRun, is_started, opening_of, words_now, one_thread, bounds, place_after, Targets, Labels, Keeps, CodeBegins, CellsAreThere, PointersAreThere, AccessesAreAllowed, IsSmall, IsWellTyped, is_ended, ThreadsAreTold}, Logged.lacking}
 
 -- ---- thread 0
 module _ (code : Code) (s : Shape) where
@@ -11,29 +11,13 @@ module _ (code : Code) (s : Shape) where
   first_started (one ∷ earlier) = or_right (is_started bounds (words_now (place_after code s earlier).words one.event) 0) ((place_after code s earlier).started 0) (first_started earlier)
 
 -- ---- each thread
-pub record Spawned (x : Targets) (code : Code) (s : Shape) (ls : Labels) (run : List Turn) : Type 0 where
-  pub consists : Consists x code s ls run
-  pub threads : ThreadsTold (newest code s run) (place_after code s run)
-
 module _ (cell_laws : CellsAreThere) (pointers : PointersAreThere) (rights : AccessesAreAllowed) (laws : RunLaws) (begins_law : CodeBegins) (keeps : Keeps) (x : Targets) (code : Code) (s : Shape) (ls : Labels) (wt : IsWellTyped x code ls) (fits : Fits code s) (few : IsSmall code s) where
-  spawned : (run : List Turn) → IsRun bounds (one_thread code s) (opening_of bounds (one_thread code s) (opening_words code s)) run → Spawned x code s ls run
-  spawned [] run = record { consists = at_first begins_law x code s ls wt fits; threads = nobody_yet (place_after code s []) (λ t is. yes (sym is)) }
-  spawned (one ∷ earlier) run =
-      let old = spawned earlier run.0 in
-      let h = old.consists in
-      let may = run.1 in
-      record {
-        consists = consists_then laws keeps cell_laws pointers x code s ls wt fits few one earlier h may;
-        threads = subst (λ (L : Newest). ThreadsTold L (place_after code s (one ∷ earlier))) (sym (newest_now code s one earlier))
-            (threads_then cell_laws pointers rights laws keeps x code s ls wt fits few one earlier h may (newest code s earlier) old.threads);
-      }
-
   pub threads_told : (run : List Turn) → IsRun bounds (one_thread code s) (opening_of bounds (one_thread code s) (opening_words code s)) run → ThreadsAreTold code s run
   threads_told run is_run =
-      let h = spawned run is_run in
+      let h = (lacking cell_laws pointers rights laws begins_law keeps x code s ls wt fits few run is_run).1 in
       record {
         first = first_started code s run;
         spawned = h.threads.spawned;
         ended = λ t e. h.threads.gone t (ap is_ended e);
-        stopped = λ t stop e. (lacking cell_laws pointers rights laws begins_law keeps x code s ls wt fits few run is_run).halts t (ap (λ o. is_some o) e);
+        stopped = λ t stop e. h.halts t (ap (λ o. is_some o) e);
       }

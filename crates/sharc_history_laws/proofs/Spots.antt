@@ -1,5 +1,5 @@
 -- Where the cell of a check lies: two checked cells of the same granule of memory are of the same object and granule to the source.
-use Rattle.sharc_history_laws.proofs.{Imports.{◌≡◌, ℕ, suc, ◌+◌, ◌-◌, ◌*◌, ◌/◌, ◌<◌, ◌≤◌, ◌≢◌, true, refl, sym, ap, ◌∙◌, subst, ⊎_elim, arith, cases_eq, cases_lt, nat_tests, slice_index_or, CellAt, Object, Code, Cell, Shape, word_of, Fits, granule_at, granule_of, Machine, int, ref, place, Global, cell_at, global_cell, made_cell, no_global, granule_in, Labels, OfGlobal, CellsAreThere, IsOn, State, OnHold, NumberStands, object_of_cell, number_in, view_of, refs_at, types_at, IsWellTyped, AreGlobals, HasCell, Targets, Field, World}, TurnAt.thread_at, Shadows.at_low, Stands.{rn, top, known_ref, there}, Staying.IsObject}
+use Rattle.sharc_history_laws.proofs.{Imports.{◌≡◌, ℕ, suc, ◌+◌, ◌-◌, ◌*◌, ◌/◌, ◌<◌, ◌≤◌, ◌≢◌, true, refl, sym, ap, ◌∙◌, subst, ⊎_elim, arith, cases_eq, cases_lt, slice_index_or, CellAt, Object, Code, Cell, Shape, word_of, Fits, granule_at, granule_of, Machine, int, ref, place, Global, cell_at, global_cell, made_cell, no_global, granule_in, Labels, OfGlobal, CellsAreThere, IsOn, State, OnHold, NumberStands, object_of_cell, number_in, view_of, refs_at, types_at, IsWellTyped, AreGlobals, HasCell, Targets, Field, World, lt_of_le-ne}, TurnAt.thread_at, Shadows.at_low, Stands.{rn, top, known_ref, there}, Staying.IsObject}
 use Rattle.sharc_invariant.specs.Typed.{IsInGlobal}
 
 -- the cell is of granule k of object o, which is granule p of memory
@@ -31,12 +31,9 @@ module _ (x : Targets) (code : Code) (globals : AreGlobals x code) where
       (λ same. same)
       (λ (ne : g ≡ h → ⊥). ⊎_elim
       (λ (lt : g < h). absurd (apart g h p q a b e lt))
-      (λ (ge : h ≤ g). absurd (apart h g q p b a (sym e) (less h g ge (λ z. ne (sym z)))))
+      (λ (ge : h ≤ g). absurd (apart h g q p b a (sym e) (lt_of_le-ne ge (λ z. ne (sym z)))))
       (cases_lt g h))
       (cases_eq g h)
-    where
-      less : (a b : ℕ) → a ≤ b → (a ≡ b → ⊥) → a < b
-      less a b le ne = grind (arith, nat_tests)
 
   halves : (p q l : ℕ) → 2 * l ≤ p → 2 * l ≤ q → p / 2 ≡ q / 2 → (p - 2 * l) / 2 ≡ (q - 2 * l) / 2
   halves p q l a b e = omega (arith, a, b, e)

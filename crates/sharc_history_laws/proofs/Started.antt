@@ -1,5 +1,5 @@
 -- The first event of a thread is the Started of the function and the argument with which an earlier Spawn started it, or of main.
-use Rattle.sharc_history_laws.proofs.{Imports.{◌≡◌, ℕ, ℤ, pos, suc, ◌<◌, ◌≢◌, ◌⊎◌, inl, inr, Bool, true, false, ◌&&◌, length, List, [], ◌∷◌, ◌++◌, reverse, Option, Some, None, if◌then◌else◌, refl, sym, ap, ◌∙◌, subst, ⊎_elim, arith, eqb-true, cases_eq, nat_tests, get_or_append_left, get_or_push, length_push, get_or-map-range_with_len, slice_index, nat_lt, nat_eq, nat_le, ◌==◌, Any, THREADS, WordOp, Act, SourceEvent, Code, Parameter, Instr, Register, Shape, Stage, Rests, Begins, Enters, word_of, RunLaws, Fits, words_of, state_word, function_word, argument_word, Machine, instr_at, act, start, spawn, int, ref, argument, function_of, opening_words, opens_with, opening_cell, first_global, turn, after, asked_by, Turn, Global, IsRun, MayTurn, put, state_now, result_of, is_started, opening_of, said, speaks_of, reference, started_with, in_start, of_argument, SpawnsStart, begins_of, one_thread, bounds, place_after, Elements, said_now, table_of, Stands, is_of, events_of, History, Targets, Labels, IsWellTyped, Fine, ArgumentOf, In, in_ref, is_unread, if_reference, IsSmall, StageStands, OnSpawn, OnHold, view_of, refs_at, types_at, Keeps, CodeBegins, CellsAreThere, PointersAreThere, AccessesAreAllowed, history_of, IsSpawnedByCode, IsStartedBy, yes, and_right as second}, TurnAt.{turn_at, told_at, turn_stands}, Consists.{Consists, consists_then, at_first, found_is, same_table}, Contents.{back_again, fits_in}, Given.{spares_given, given_stays}, Holding.own_push, Lists.{Newest, Split, Last, Earlier, split, reverse_push}, Locking.is_own, Rules.{over_runs, pushed, newest, newest_now}, Stands.{live_slot, top, rn}, Tables.header_of, Valued.{same_elements, reference_as}, Standing.{is_one as started_word}, Threaded.{and_parts as parts}, Carried.{put_same, put_other}}
+use Rattle.sharc_history_laws.proofs.{Imports.{◌≡◌, ℕ, ℤ, pos, suc, ◌<◌, ◌≢◌, ◌⊎◌, inl, inr, Bool, true, false, ◌&&◌, length, List, [], ◌∷◌, ◌++◌, reverse, Option, Some, None, if◌then◌else◌, refl, sym, ap, ◌∙◌, subst, ⊎_elim, arith, eqb-true, cases_eq, nat_tests, get_or_append_left, get_or_push, length_push, get_or-map-range_with_len, slice_index, nat_lt, nat_eq, nat_le, ◌==◌, Any, THREADS, WordOp, Act, SourceEvent, Code, Parameter, Instr, Register, Shape, Stage, Rests, Begins, Enters, word_of, RunLaws, Fits, words_of, state_word, function_word, argument_word, Machine, instr_at, act, start, spawn, int, ref, argument, function_of, opening_words, opens_with, opening_cell, first_global, turn, after, asked_by, Turn, Global, IsRun, MayTurn, put, state_now, result_of, is_started, opening_of, said, speaks_of, reference, started_with, in_start, of_argument, SpawnsStart, begins_of, one_thread, bounds, place_after, Elements, said_now, table_of, is_of, events_of, History, Targets, Labels, IsWellTyped, Fine, ArgumentOf, In, in_ref, is_unread, if_reference, IsSmall, StageStands, OnSpawn, OnHold, view_of, refs_at, types_at, Keeps, CodeBegins, CellsAreThere, PointersAreThere, AccessesAreAllowed, history_of, IsSpawnedByCode, IsStartedBy, yes, and_right as second}, TurnAt.{turn_at, told_at, turn_stands}, Consists.{Consists, found_is, same_table}, Contents.{back_again, fits_in}, Given.{spares_given, given_stays}, Holding.own_push, Lists.{Newest, Each, no_event, reverse_push}, Locking.is_own, Rules.{over_runs, each_pushed, pushed, newest}, Stands.{live_slot, top, rn}, Tables.header_of, Valued.{same_elements, reference_as}, Standing.{is_one as started_word}, Threaded.{and_parts as parts}, Carried.{put_same, put_other}}
 use Rattle.sharc_code.specs.Says.{argument_of}
 use Rattle.sharc_invariant.specs.Words as Words
 
@@ -270,8 +270,9 @@ module _ (cell_laws : CellsAreThere) (pointers : PointersAreThere) (rights : Acc
           let said_own : event ≡ Some own = ap (λ j. said code j m found elements) begun ∙ ap (in_start code m found elements) at in
           let same : own ≡ e = let z : Some own ≡ Some e = sym said_own ∙ said_is in cc in
           let speaks : elements ≡ T found = ap (λ j. T (speaks_of j m found)) begun in
+          let answer : v ≡ started_with (function_of code f).parameter found elements = let z : Act.Started v ≡ own.act = sym is ∙ ap (λ (d : SourceEvent). d.act) (sym same) in cc in
           let value : v ≡ started_with (function_of code f).parameter (argument_given g u) (T (argument_given g u)) =
-          value_of v _ (sym is ∙ ap (λ (d : SourceEvent). d.act) (sym same)) ∙ ap (started_with (function_of code f).parameter found) speaks ∙ ap (λ n. started_with (function_of code f).parameter n (T n)) found_here in
+          answer ∙ ap (started_with (function_of code f).parameter found) speaks ∙ ap (λ n. started_with (function_of code f).parameter n (T n)) found_here in
           record {
             function = f;
             known = (wt.starts f (subst (λ f. ls.starts f ≡ true) f_is (h.state.begins.function u lt state))).is;
@@ -293,13 +294,9 @@ module _ (cell_laws : CellsAreThere) (pointers : PointersAreThere) (rights : Acc
                 (old.given u lt quiet state);
           }
         where
-          value_of : (a b : ℤ) → Act.Started a ≡ Act.Started b → a ≡ b
-          value_of a b q = cc
-
           nothing : (p : Parameter) (n : ℕ) → started_with p 0 n ≡ pos 0
           nothing Parameter.None n = refl
-          nothing Parameter.Int n = refl
-          nothing Parameter.Reference n = refl
+          nothing _ n = refl
 
       silent : (y : Stage) → ((place_after code s earlier).threads one.thread).own.stage ≡ y → in_start code ((place_after code s earlier).threads one.thread) found elements y ≡ None → ⊥
       silent y at q = let z : None ≡ Some e = sym q ∙ sym (ap (in_start code m found elements) at) ∙ sym (ap (λ j. said code j m found elements) (at_start unread)) ∙ said_is in cc
@@ -349,42 +346,26 @@ module _ (code : Code) (s : Shape) where
   }
 
 -- ---- runs
-abbrev pub StartsAre : Code → History → Type 0
-StartsAre code R = (before : History) (e : SourceEvent) (after : History) → Stands R before e after → events_of e.thread before ≡ [] → (v : ℤ) → e.act ≡ Act.Started v → IsStartedBy code before e v
-
-none_yet : (code : Code) → StartsAre code []
-none_yet code [] e after stands = absurd (cc)
-none_yet code (b ∷ bs) e after stands = absurd (cc)
-
-one_more : (code : Code) (e : SourceEvent) (L : Newest) → StartsAre code (reverse L) → (events_of e.thread (reverse L) ≡ [] → (v : ℤ) → e.act ≡ Act.Started v → IsStartedBy code (reverse L) e v) → StartsAre code (reverse (e ∷ L))
-one_more code e L old new before d after stands = by (split e L before d after stands)
-  where
-    by : Split e L before d after → events_of d.thread before ≡ [] → (v : ℤ) → d.act ≡ Act.Started v → IsStartedBy code before d v
-    by (Last b same n) = subst (λ before. events_of d.thread before ≡ [] → (v : ℤ) → d.act ≡ Act.Started v → IsStartedBy code before d v) (sym b)
-        (subst (λ (d : SourceEvent). events_of d.thread (reverse L) ≡ [] → (v : ℤ) → d.act ≡ Act.Started v → IsStartedBy code (reverse L) d v) (sym same) new)
-    by (Earlier rest n stands') = old before d rest stands'
-
-with_event : (code : Code) (ev : Option SourceEvent) (L : Newest) → StartsAre code (reverse L) → ((e : SourceEvent) → ev ≡ Some e → events_of e.thread (reverse L) ≡ [] → (v : ℤ) → e.act ≡ Act.Started v → IsStartedBy code (reverse L) e v)
-    → StartsAre code (reverse (pushed ev L))
-with_event code None L old new = old
-with_event code (Some e) L old new = one_more code e L old (new e refl)
+-- the first event of a thread is its Started
+abbrev pub IsStarted : Code → History → SourceEvent → Type 0
+IsStarted code before e = events_of e.thread before ≡ [] → (v : ℤ) → e.act ≡ Act.Started v → IsStartedBy code before e v
 
 pub record Begun (x : Targets) (code : Code) (s : Shape) (ls : Labels) (run : List Turn) : Type 0 where
   pub consists : Consists x code s ls run
   pub told : StartsTold code (newest code s run) (table_of code s run) (place_after code s run)
-  pub starts : StartsAre code (history_of code s run)
+  pub starts : Each (IsStarted code) (history_of code s run)
 
 module _ (cell_laws : CellsAreThere) (pointers : PointersAreThere) (rights : AccessesAreAllowed) (laws : RunLaws) (starts : SpawnsStart) (begins_law : CodeBegins) (keeps : Keeps) (x : Targets) (code : Code) (s : Shape) (ls : Labels) (wt : IsWellTyped x code ls) (fits : Fits code s) (few : IsSmall code s) where
   pub begun_runs : (run : List Turn) → IsRun bounds (one_thread code s) (opening_of bounds (one_thread code s) (opening_words code s)) run → Begun x code s ls run
   begun_runs run is =
       let k = over_runs cell_laws pointers laws begins_law keeps x code s ls wt fits few
-      (λ run h L. record { told : StartsTold code L (table_of code s run) (place_after code s run); starts : StartsAre code (reverse L) })
-      (record { told = nobody_started code s; starts = none_yet code })
+      (λ run h L. record { told : StartsTold code L (table_of code s run) (place_after code s run); starts : Each (IsStarted code) (reverse L) })
+      (record { told = nobody_started code s; starts = no_event (IsStarted code) })
       (λ one earlier h may _ old.
       let ev = said_now code (table_of code s earlier) ((place_after code s earlier).threads one.thread) (result_of one.event) in
       let L = newest code s earlier in
       record {
         told = starts_then cell_laws pointers rights laws starts keeps x code s ls wt fits few one earlier h may L old.told;
-        starts = with_event code ev L old.starts (λ e is none v q. started_now cell_laws pointers rights laws starts keeps x code s ls wt fits few one earlier h may L old.told e is none v q);
+        starts = each_pushed (IsStarted code) ev L old.starts (λ e is none v q. started_now cell_laws pointers rights laws starts keeps x code s ls wt fits few one earlier h may L old.told e is none v q);
       }) run is in
       record { consists = k.0; told = k.1.told; starts = k.1.starts }

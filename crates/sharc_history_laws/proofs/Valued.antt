@@ -78,6 +78,14 @@ module _ (cell_laws : CellsAreThere) (pointers : PointersAreThere) (rights : Acc
       let first = (h.state.heap_stands.kept.blocks.within n nz).0 in
       omega arith
 
+  -- an object that is there still is emptied as before
+  pub emptied_still : (o : ℕ) → (then_.world.obj o).live ≡ true → IsEmptied code (place_after code s earlier) o → IsEmptied code (after_turn bounds (one_thread code s) (place_after code s earlier) one) o
+  emptied_still o live k = ⊎_elim
+      (λ (e : freed_at i m ≡ Some o). absurd (yes (sym live ∙ ap (λ (f : ℕ → ObjectState). (f o).live) (objects_then laws keeps cell_laws pointers x code s ls wt fits few one earlier h may)
+      ∙ freed_gone ls t m ((after_turn bounds (one_thread code s) g one).threads t) h.world.obj o i e)))
+      (λ (z : IsEmptied code (after_turn bounds (one_thread code s) g one) o). z)
+      (emptied_then code s g one o k)
+
   -- ---- one cell after the turn
   module _ (r : Resolution) (L : Newest) (old : Contents r x code s L (table_of code s earlier) (place_after code s earlier) h.world h.state.cells)
       (c : CellAt) (cell : IsCellOf code then_.world then_.state.cells c) (value : is_value (content_of x code then_.world c) ≡ true) where
@@ -137,13 +145,6 @@ module _ (cell_laws : CellsAreThere) (pointers : PointersAreThere) (rights : Acc
         spared = word_spared (word_of_cell code s c) (IsFreeing code m o) g.words one.event (turn code s m) may.next.asks
             (spares cell_laws pointers x code s ls wt fits g h.world h.state t on o j was.live was.inside old_value (IsFreeing code m o) not_written (begins_freeing code m o may.next.runs))
 
-        unfreed : freed_at i ((place_after code s earlier).threads one.thread) ≡ Some o → ⊥
-        unfreed e = yes (sym cell.live ∙ ap (λ (f : ℕ → ObjectState). (f o).live) (objects_then laws keeps cell_laws pointers x code s ls wt fits few one earlier h may)
-            ∙ freed_gone ls t m ((after_turn bounds (one_thread code s) g one).threads t) h.world.obj o i e)
-
-        emptied_still : IsEmptied code (place_after code s earlier) o → IsEmptied code (after_turn bounds (one_thread code s) (place_after code s earlier) one) o
-        emptied_still k = ⊎_elim (λ (e : freed_at i m ≡ Some o). absurd (unfreed e)) (λ (z : IsEmptied code (after_turn bounds (one_thread code s) g one) o). z) (emptied_then code s g one o k)
-
         -- what the word is stays as it is
         held_still : (w : ℕ) → slice_index (place_after code s earlier).words (word_of_cell code s c) ≡ w → value_held (content_of x code h.world c) T w ≡ value_held (content_of x code h.world c) T' w
         held_still w e = by (content_of x code h.world c) refl
@@ -160,9 +161,9 @@ module _ (cell_laws : CellsAreThere) (pointers : PointersAreThere) (rights : Acc
             (λ (v : newest_value r L c ≡ value_held (content_of x code h.world c) T (slice_index g.words (word_of_cell code s c))).
             inl (kept_value ev e about ∙ v ∙ held_still (slice_index g.words (word_of_cell code s c)) refl
             ∙ was.content.held T' (slice_index g.words (word_of_cell code s c)) ∙ ap (value_held (content_of x code then_.world c) T') (sym word)))
-            (λ (k : IsEmptied code g o). inr (emptied_still k))
+            (λ (k : IsEmptied code g o). inr (emptied_still o cell.live k))
             (old c old_cell old_value))
-            (λ (k : IsFreeing code m o). inr (emptied_still (t, (may.started, k))))
+            (λ (k : IsFreeing code m o). inr (emptied_still o cell.live (t, (may.started, k))))
             spared
 
       -- ---- the turn writes the cell

@@ -1,5 +1,5 @@
 -- Whoever waits by the events stands where it waits, and the words of conditions have the bits of those who wait.
-use Rattle.sharc_history_laws.proofs.{Imports.{◌≡◌, ℕ, pos, zero, suc, ◌+◌, ◌^◌, ◌<◌, ◌≢◌, ◌⊎◌, inl, inr, Bool, true, false, not, ◌||◌, ◌&&◌, cond, List, ◌∷◌, Option, Some, None, if◌then◌else◌, refl, sym, ap, ◌∙◌, subst, ⊎_elim, arith, eqb-true, cases_eq, not_true, get_or-set_other, slice_index, ◌==◌, THREADS, WordOp, word_after, Act, CellAt, Object, SourceEvent, WaitersLaws, waits_in, lowest_of, without_lowest, Code, Cell, Instr, Shape, Stage, Links, Wakes, word_of, RunLaws, Fits, Machine, instr_at, int, ref, word, act, signal, is_of_null, step_of, goes, fails, turn, after, asked_by, Turn, Global, MayTurn, after_turn, put, state_now, words_now, said, cell_at, nobody, in_signal, event_at, one_thread, bounds, place_after, is_cell, same_cell, takes_away, Targets, Field, Content, Waiters, field_in, Gate, Closed, Labels, IsWellTyped, Accesses, HasCell, IsNotSole, In, RegisterOf, ObjectState, World, IsSmall, StageStands, EntryStands, OnHold, object_of_cell, number_in, view_of, refs_at, types_at, Keeps, CellsAreThere, PointersAreThere, AccessesAreAllowed, StateStands, WaitsFollow, same_is, ne_of as other_is, yes, is_condition, is_enter}, TurnAt.{turn_at, told_at, turn_stands}, Acts.{freed_at, thread_said}, Born.born, Consists.{Consists, consists_then, objects_then, after_set, found_is, headed, live_not_built, header_built}, Contents.{IsCellOf, content_of, word_of_cell, one_cell}, Emptying.{IsFreeing, IsEmptied, emptied_then, begins_freeing}, Holding.cell_eq, Lists.Newest, Locking.cell_refl, ModesKept.word_spared, OneMode.{place_of, numbers_now}, Queued.{waits_by, waits_behind, waiter_behind, other_event, no_condition, condition_elsewhere, no_enter, woken_leaves, enterless}, Outcomes.wakes_nobody, Rules.{pushed, about_now, decide, freed_gone}, Shared.number_of, Single.{single, rests_hold}, Sparing.{holds_waiters, spares_cell}, Touches.{is_mutex, waited_cell, written_cell}, Stands.{register_is, live_slot, some_base, there, top, reads_ref}, Tables.header_of, Unemptied.not_emptied, Valued.cell_named, Values.{Kept, kept}, Logged.{above as positive}, Carried.{put_same, put_other}}
+use Rattle.sharc_history_laws.proofs.{Imports.{◌≡◌, ℕ, pos, zero, suc, ◌+◌, ◌^◌, ◌<◌, ◌≢◌, ◌⊎◌, inl, inr, Bool, true, false, not, ◌||◌, ◌&&◌, cond, List, ◌∷◌, Option, Some, None, if◌then◌else◌, refl, sym, ap, ◌∙◌, subst, ⊎_elim, arith, eqb-true, cases_eq, not_true, get_or-set_other, slice_index, ◌==◌, THREADS, WordOp, word_after, Act, CellAt, Object, SourceEvent, WaitersLaws, waits_in, lowest_of, without_lowest, Code, Cell, Instr, Shape, Stage, Links, Wakes, word_of, RunLaws, Fits, Machine, instr_at, int, ref, word, act, signal, is_of_null, step_of, goes, fails, turn, after, asked_by, Turn, Global, MayTurn, after_turn, put, state_now, words_now, said, cell_at, nobody, in_signal, event_at, one_thread, bounds, place_after, is_cell, same_cell, takes_away, Targets, Field, Content, Waiters, field_in, Gate, Closed, Labels, IsWellTyped, Accesses, HasCell, IsNotSole, In, RegisterOf, World, IsSmall, StageStands, EntryStands, OnHold, object_of_cell, number_in, view_of, refs_at, types_at, Keeps, CellsAreThere, PointersAreThere, AccessesAreAllowed, StateStands, WaitsFollow, same_is, ne_of as other_is, yes, is_condition, is_enter}, TurnAt.{turn_at, told_at, turn_stands}, Acts.thread_said, Born.born, Consists.{Consists, consists_then, after_set, found_is, headed, live_not_built}, Contents.{IsCellOf, content_of, word_of_cell, one_cell}, Emptying.{IsFreeing, IsEmptied, begins_freeing}, Holding.cell_eq, Lists.Newest, Locking.cell_refl, ModesKept.word_spared, OneMode.{place_of, numbers_now}, Queued.{waits_by, waits_behind, waiter_behind, other_event, no_condition, condition_elsewhere, no_enter, woken_leaves, enterless}, Outcomes.wakes_nobody, Rules.{pushed, about_now, decide}, Shared.number_of, Single.{single, rests_hold}, Sparing.{holds_waiters, spares_cell}, Touches.{is_mutex, waited_cell, written_cell}, Stands.{register_is, live_slot, some_base, there, top, reads_ref}, Tables.header_of, Unemptied.not_emptied, Valued.{cell_named, header_some, emptied_still}, Values.{Kept, kept}, Logged.{above as positive}, Carried.{put_same, put_other}}
 use Rattle.sharc_meaning.specs.Store.{entered}
 use Rattle.sharc_history_laws.proofs.Placed as Placed
 
@@ -113,17 +113,14 @@ module _ (bits : WaitersLaws) (cell_laws : CellsAreThere) (pointers : PointersAr
       open_gate b (inl e) = closed b e
       open_gate b (inr e) = subst IsNotSole (sym e.1) tt
 
-      cell_is : (d : Cell) → Some d ≡ Some k → d ≡ k
-      cell_is d e = cc
-
       signal_hold : (d : Cell) (site : ℕ) (stage : Stage) → StageStands code s h.state.elements h.world h.state.heap (place_after code s earlier).words one.thread ((place_after code s earlier).threads one.thread) (Instr.CondSignal d site) stage → OnHold stage
       signal_hold d site (Links all) h = absurd h
       signal_hold d site _ h = tt
 
       by : (j : Instr) → i ≡ j → waited_cell j ≡ Some k → Here k
-      by (Instr.CondEnter d site) is w = subst Here (cell_is d w) (let f = fine (Instr.CondEnter d site) is in record { field = f.1.0; has = f.1.1; holds = f.1.2; hold = held_by (Instr.CondEnter d site) is refl; apart = open_gate _ f.0 })
-      by (Instr.CondSignal d site) is w = subst Here (cell_is d w) (let f = fine (Instr.CondSignal d site) is in record { field = f.1.0; has = f.1.1; holds = f.1.2; hold = signal_hold d site m.own.stage (stage_here (Instr.CondSignal d site) is); apart = closed _ f.0 })
-      by (Instr.CondBroadcast d site) is w = subst Here (cell_is d w) (let f = fine (Instr.CondBroadcast d site) is in record { field = f.1.0; has = f.1.1; holds = f.1.2; hold = held_by (Instr.CondBroadcast d site) is refl; apart = closed _ f.0 })
+      by (Instr.CondEnter d site) is w = subst Here (let e : d ≡ k = cc in e) (let f = fine (Instr.CondEnter d site) is in record { field = f.1.0; has = f.1.1; holds = f.1.2; hold = held_by (Instr.CondEnter d site) is refl; apart = open_gate _ f.0 })
+      by (Instr.CondSignal d site) is w = subst Here (let e : d ≡ k = cc in e) (let f = fine (Instr.CondSignal d site) is in record { field = f.1.0; has = f.1.1; holds = f.1.2; hold = signal_hold d site m.own.stage (stage_here (Instr.CondSignal d site) is); apart = closed _ f.0 })
+      by (Instr.CondBroadcast d site) is w = subst Here (let e : d ≡ k = cc in e) (let f = fine (Instr.CondBroadcast d site) is in record { field = f.1.0; has = f.1.1; holds = f.1.2; hold = held_by (Instr.CondBroadcast d site) is refl; apart = closed _ f.0 })
       by _ is w = absurd (cc)
 
   module _ (k : Cell) (at : Here k) where
@@ -149,14 +146,6 @@ module _ (bits : WaitersLaws) (cell_laws : CellsAreThere) (pointers : PointersAr
   left_at : (k : Cell) (op : WordOp) → asked_by (turn code s ((place_after code s earlier).threads one.thread)) ≡ Some (step_of (word s ((place_after code s earlier).threads one.thread) k) op)
       → slice_index words (word s ((place_after code s earlier).threads one.thread) k) ≡ word_after op (slice_index (place_after code s earlier).words (word s ((place_after code s earlier).threads one.thread) k))
   left_at k op asked = after_set g.words one.event (step_of (word s m k) op) (may.next.asks ∙ asked) may.answered
-
-  -- no object of the globals is made
-  header_some : (n : ℕ) → header_of i ((place_after code s earlier).threads one.thread).own.stage ≡ Some n → n ≢ 0
-  header_some n made z =
-      let built = header_built x code s ls wt fits g h.world h.state t on n made in
-      let nz : h.state.heap.size n ≢ 0 = λ q. let e = h.state.heap_stands.kept.blocks.known n q in let f : Rattle.sharc_invariant.specs.Blocks.Built t ≡ Rattle.sharc_invariant.specs.Blocks.Unused = sym built ∙ e in cc in
-      let first = (h.state.heap_stands.kept.blocks.within n nz).0 in
-      omega arith
 
   -- ---- with what is known of the events before it
   module _ (L : Newest) (stand : WaitersStand code L (place_after code s earlier)) (old : WordsTell x code s L (place_after code s earlier) h.world h.state.cells) (wake : (u : ℕ) → wakes_nobody ((place_after code s earlier).threads u).own.stage ≡ false) where
@@ -193,16 +182,13 @@ module _ (bits : WaitersLaws) (cell_laws : CellsAreThere) (pointers : PointersAr
       made_plain n = by i
         where
           by : (j : Instr) → header_of j ((place_after code s earlier).threads one.thread).own.stage ≡ Some n → is_condition j ≡ false
-          by (Instr.CondEnter k site) e = absurd (let z : None ≡ Some n = e in cc)
-          by (Instr.CondSignal k site) e = absurd (let z : None ≡ Some n = e in cc)
-          by (Instr.CondBroadcast k site) e = absurd (let z : None ≡ Some n = e in cc)
-          by (Instr.CondWait k site) e = absurd (let z : None ≡ Some n = e in cc)
-          by _ e = refl
+          by (Instr.CondWait k site) e = cc
+          by _ e = cc
 
       made_cell : (n : ℕ) → c.object ≡ Object.Made n → header_of i ((place_after code s earlier).threads one.thread).own.stage ≡ Some n → Tells (pushed event L)
       made_cell n is made =
           let same : o ≡ n = ap number_of is in
-          let nz = header_some n made in
+          let nz = header_some cell_laws pointers rights laws keeps x code s ls wt fits few one earlier h may n made in
           let made_o : header_of i m.own.stage ≡ Some o = made ∙ ap (λ k. Some k) (sym same) in
           let word_zero : slice_index words (word_of_cell code s c) ≡ 0 = born laws keeps cell_laws pointers x code s ls wt fits few one earlier h may o (λ z. nz (sym same ∙ z)) made_o j cell.inside in
           let nobody : (u : ℕ) → waits_by L c u ≡ false = λ u. not_true (waits_by L c u) (λ w.
@@ -218,13 +204,6 @@ module _ (bits : WaitersLaws) (cell_laws : CellsAreThere) (pointers : PointersAr
 
         old_cell : IsCellOf code h.world h.state.cells c
         old_cell = record { live = was.live; inside = was.inside; named = cell.named }
-
-        unfreed : freed_at i ((place_after code s earlier).threads one.thread) ≡ Some o → ⊥
-        unfreed e = yes (sym cell.live ∙ ap (λ (f : ℕ → ObjectState). (f o).live) (objects_then laws keeps cell_laws pointers x code s ls wt fits few one earlier h may)
-            ∙ freed_gone ls t m ((after_turn bounds (one_thread code s) g one).threads t) h.world.obj o i e)
-
-        emptied_still : IsEmptied code (place_after code s earlier) o → IsEmptied code (after_turn bounds (one_thread code s) (place_after code s earlier) one) o
-        emptied_still k = ⊎_elim (λ (e : freed_at i m ≡ Some o). absurd (unfreed e)) (λ (z : IsEmptied code (after_turn bounds (one_thread code s) g one) o). z) (emptied_then code s g one o k)
 
         no_mutex : (k : Content) → holds_waiters k ≡ true → is_mutex k ≡ false
         no_mutex Waiters e = refl
@@ -254,13 +233,10 @@ module _ (bits : WaitersLaws) (cell_laws : CellsAreThere) (pointers : PointersAr
                 ∙ ap (λ p. holds_waiters (field_in x (h.world.obj o).ty p).holds) ej ∙ old_holds in
                 yes (sym q ∙ plain)
 
-            cell_is : (d : Cell) → Some d ≡ Some k → d ≡ k
-            cell_is d e = cc
-
             by : (n : Instr) → i ≡ n → written_cell n ≡ Some k → ⊥
-            by (Instr.Store q d site) is e = let f = fine (Instr.Store q d site) is in of_field d f.0 (held_by (Instr.Store q d site) is refl) f.2.cell (cell_is d e) (ap holds_waiters f.3)
-            by (Instr.Exchange q d site) is e = let f = fine (Instr.Exchange q d site) is in of_field d f.1.0 (held_by (Instr.Exchange q d site) is refl) f.1.2.cell (cell_is d e) (ap holds_waiters f.1.3.holds)
-            by (Instr.TakeCell q d site) is e = let f = fine (Instr.TakeCell q d site) is in of_field d f.1.0 (held_by (Instr.TakeCell q d site) is refl) f.1.2.cell (cell_is d e) (ap holds_waiters f.1.3.holds)
+            by (Instr.Store q d site) is e = let f = fine (Instr.Store q d site) is in of_field d f.0 (held_by (Instr.Store q d site) is refl) f.2.cell (let q : d ≡ k = cc in q) (ap holds_waiters f.3)
+            by (Instr.Exchange q d site) is e = let f = fine (Instr.Exchange q d site) is in of_field d f.1.0 (held_by (Instr.Exchange q d site) is refl) f.1.2.cell (let q : d ≡ k = cc in q) (ap holds_waiters f.1.3.holds)
+            by (Instr.TakeCell q d site) is e = let f = fine (Instr.TakeCell q d site) is in of_field d f.1.0 (held_by (Instr.TakeCell q d site) is refl) f.1.2.cell (let q : d ≡ k = cc in q) (ap holds_waiters f.1.3.holds)
             by _ is e = cc
 
         spared : (slice_index words (word_of_cell code s c) ≡ slice_index (place_after code s earlier).words (word_of_cell code s c)) ⊎ (Own ⊎ IsFreeing code ((place_after code s earlier).threads one.thread) o)
@@ -274,9 +250,9 @@ module _ (bits : WaitersLaws) (cell_laws : CellsAreThere) (pointers : PointersAr
               (λ (same : slice_index words (word_of_cell code s c) ≡ slice_index g.words (word_of_cell code s c)). ⊎_elim
               (λ (v : (u : ℕ) → waits_by L c u ≡ waits_in (slice_index g.words (word_of_cell code s c)) u).
               inl (λ u. waiter_behind event L c u ∙ other u (waits_by L c u) ∙ v u ∙ ap (λ w. waits_in w u) (sym same)))
-              (λ (k : IsEmptied code g o). inr (emptied_still k))
+              (λ (k : IsEmptied code g o). inr (emptied_still cell_laws pointers rights laws keeps x code s ls wt fits few one earlier h may o cell.live k))
               (old c old_cell old_holds))
-              (λ (k : Own ⊎ IsFreeing code m o). ⊎_elim (λ (q : Own). absurd (never q)) (λ (q : IsFreeing code m o). inr (emptied_still (t, (may.started, q)))) k)
+              (λ (k : Own ⊎ IsFreeing code m o). ⊎_elim (λ (q : Own). absurd (never q)) (λ (q : IsFreeing code m o). inr (emptied_still cell_laws pointers rights laws keeps x code s ls wt fits few one earlier h may o cell.live (t, (may.started, q)))) k)
               spared
 
         -- ---- the turn changes its waiters
@@ -295,7 +271,7 @@ module _ (bits : WaitersLaws) (cell_laws : CellsAreThere) (pointers : PointersAr
           told_from step = ⊎_elim
               (λ (v : (u : ℕ) → waits_by L c u ≡ waits_in (slice_index g.words (word_of_cell code s c)) u).
               inl (λ u. waiter_behind event L c u ∙ step u (waits_by L c u) (v u ∙ ap (λ n. waits_in (slice_index g.words n) u) at_word) ∙ ap (λ n. waits_in (slice_index words n) u) (sym at_word)))
-              (λ (q : IsEmptied code g o). inr (emptied_still q))
+              (λ (q : IsEmptied code g o). inr (emptied_still cell_laws pointers rights laws keeps x code s ls wt fits few one earlier h may o cell.live q))
               (old c old_cell old_holds)
 
           at_enter : (site : ℕ) → i ≡ Instr.CondEnter k site → Tells (pushed event L)
@@ -375,13 +351,10 @@ module _ (bits : WaitersLaws) (cell_laws : CellsAreThere) (pointers : PointersAr
           told_own : Tells (pushed event L)
           told_own = by i refl w
             where
-              cell_is : (d : Cell) → Some d ≡ Some k → d ≡ k
-              cell_is d e = cc
-
               by : (j : Instr) → i ≡ j → waited_cell j ≡ Some k → Tells (pushed event L)
-              by (Instr.CondEnter d site) is e = at_enter site (is ∙ ap (λ d. Instr.CondEnter d site) (cell_is d e))
-              by (Instr.CondSignal d site) is e = at_signal site (is ∙ ap (λ d. Instr.CondSignal d site) (cell_is d e)) m.own.stage refl
-              by (Instr.CondBroadcast d site) is e = at_broadcast site (is ∙ ap (λ d. Instr.CondBroadcast d site) (cell_is d e))
+              by (Instr.CondEnter d site) is e = at_enter site (is ∙ ap (λ d. Instr.CondEnter d site) (let q : d ≡ k = cc in q))
+              by (Instr.CondSignal d site) is e = at_signal site (is ∙ ap (λ d. Instr.CondSignal d site) (let q : d ≡ k = cc in q)) m.own.stage refl
+              by (Instr.CondBroadcast d site) is e = at_broadcast site (is ∙ ap (λ d. Instr.CondBroadcast d site) (let q : d ≡ k = cc in q))
               by _ is e = absurd (cc)
 
         -- ---- both
@@ -398,19 +371,13 @@ module _ (bits : WaitersLaws) (cell_laws : CellsAreThere) (pointers : PointersAr
                 act_of (Some e) = e.act
 
             plain : (j : Instr) → i ≡ j → waited_cell j ≡ None → (u : ℕ) (was : Bool) → waits_behind event c u was ≡ was
-            plain (Instr.CondEnter d site) is e = absurd (let z : Some d ≡ None = e in cc)
-            plain (Instr.CondSignal d site) is e = absurd (let z : Some d ≡ None = e in cc)
-            plain (Instr.CondBroadcast d site) is e = absurd (let z : Some d ≡ None = e in cc)
             plain (Instr.CondWait d site) is e = λ u was. ap (λ j. waits_behind (said code j m found elements) c u was) is ∙ woken_leaves (said code (Instr.CondWait d site) m found elements) (cell_at code m d) c u was (of_wait d site (waits_in found m.own.number))
-            plain _ is e = λ u was. other_event event c u was (ap (is_cell c) (no_condition code m laws.turns.tells i found elements (ap is_condition is)))
-
-            some_eq : (d k : Cell) → Some d ≡ Some k → d ≡ k
-            some_eq d k e = cc
+            plain j is e = λ u was. other_event event c u was (ap (is_cell c) (no_condition code m laws.turns.tells i found elements (ap is_condition is ∙ (let q : is_condition j ≡ false = cc in q))))
 
             split : (k : Cell) → waited_cell i ≡ Some k → (b : Bool) → same_cell c (cell_at code ((place_after code s earlier).threads one.thread) k) ≡ b → Tells (pushed event L)
             split k w true e = told_own k w (cell_eq c (cell_at code m k) e)
             split k w false e = told_kept (λ u was. other_event event c u was (condition_elsewhere code m i found elements c k w e))
-                (λ (q : Own). yes (sym (ap (λ d. same_cell d (cell_at code m k)) q.2 ∙ ap (λ d. same_cell (cell_at code m d) (cell_at code m k)) (some_eq q.0 k (sym q.1 ∙ w)) ∙ cell_refl (cell_at code m k)) ∙ e))
+                (λ (q : Own). yes (sym (ap (λ d. same_cell d (cell_at code m k)) q.2 ∙ ap (λ d. same_cell (cell_at code m d) (cell_at code m k)) (let z : Some q.0 ≡ Some k = sym q.1 ∙ w in let y : q.0 ≡ k = cc in y) ∙ cell_refl (cell_at code m k)) ∙ e))
 
             by : (o : Option Cell) → waited_cell i ≡ o → Tells (pushed event L)
             by None w = told_kept (plain i refl w) (λ (q : Own). let z : None ≡ Some q.0 = sym w ∙ q.1 in cc)
@@ -423,7 +390,7 @@ module _ (bits : WaitersLaws) (cell_laws : CellsAreThere) (pointers : PointersAr
           old_one unmade = told_old (kept laws keeps cell_laws pointers x code s ls wt fits few one earlier h may o j cell.live cell.inside unmade)
 
           by : (b : Object) → c.object ≡ b → Tells (pushed event L)
-          by (Object.Global q) is = old_one (λ made. header_some o made (ap number_of is))
+          by (Object.Global q) is = old_one (λ made. header_some cell_laws pointers rights laws keeps x code s ls wt fits few one earlier h may o made (ap number_of is))
           by (Object.Made n) is = ⊎_elim
               (λ (made : header_of i m.own.stage ≡ Some n). made_cell n is made)
               (λ (never : header_of i m.own.stage ≡ Some n → ⊥). old_one (λ made. never (made ∙ ap (λ (b : Object). Some (number_of b)) is)))
@@ -452,9 +419,6 @@ module _ (bits : WaitersLaws) (cell_laws : CellsAreThere) (pointers : PointersAr
       stays_not : is_waiting i ≡ false → Stand ((place_after code s earlier).threads one.thread) → ⊥
       stays_not plain w = yes (sym (at_waiting code m.at.pc w.cell w.at) ∙ plain)
 
-      cell_eq_of : (a b : Cell) (m n : ℕ) → Instr.CondWait a m ≡ Instr.CondWait b n → a ≡ b
-      cell_eq_of a b m n e = cc
-
       -- it enters
       enters_now : (k : Cell) (site : ℕ) → i ≡ Instr.CondEnter k site → waits_by (pushed event L) c one.thread ≡ true → Stand (after (act code s (Instr.CondEnter k site) ((place_after code s earlier).threads one.thread)) found)
       enters_now k site is w = split (same_cell c (cell_at code m k)) refl
@@ -481,7 +445,7 @@ module _ (bits : WaitersLaws) (cell_laws : CellsAreThere) (pointers : PointersAr
           st = was_waiting (ap is_enter is) w
 
           own_cell : IsAtWait code ((place_after code s earlier).threads one.thread).at.pc st.cell → st.cell ≡ k
-          own_cell (Waits a e) = cell_eq_of st.cell k a site (sym e ∙ is)
+          own_cell (Waits a e) = let z : Instr.CondWait st.cell a ≡ Instr.CondWait k site = sym e ∙ is in cc
           own_cell (Unlocks q mutex a b e v) = absurd (let z : Instr.Unlock q mutex a ≡ Instr.CondWait k site = sym e ∙ is in cc)
 
           here_is : c ≡ cell_at code ((place_after code s earlier).threads one.thread) k

@@ -28,7 +28,7 @@ pub record Typed (x : Targets) (code : Code) (s : Shape) (ls : Labels) : Type 0 
 
 module _ (laws : TheLaws) (x : Targets) (code : Code) (s : Shape) (ls : Labels) (typed : Typed x code s ls) where
   pub halting : (run : List Turn) → RunOf code s run → Halting code s run
-  halting run is = record { halts = (lacking laws.cells laws.pointers laws.rights laws.run laws.begins laws.keeps x code s ls typed.wt typed.fits typed.few run is).halts }
+  halting run is = record { halts = (lacking laws.cells laws.pointers laws.rights laws.run laws.begins laws.keeps x code s ls typed.wt typed.fits typed.few run is).1.halts }
 
   -- no thread that makes a turn has stopped
   pub fresh_of : (one : Turn) (earlier : List Turn) → RunOf code s (one ∷ earlier) → Halting code s earlier → ((place_after code s earlier).threads one.thread).own.stop ≡ None

@@ -1,5 +1,5 @@
 -- From which granules a thread has withdrawn, after each turn.
-use Rattle.sharc_history_laws.proofs.{Imports.{◌≡◌, ℕ, zero, suc, ◌+◌, ◌<◌, ◌≤◌, Bool, true, false, ◌||◌, length, List, [], ◌∷◌, Option, Some, None, is_some, if◌then◌else◌, refl, sym, ap, ◌∙◌, subst, ⊎_elim, arith, eqb-true, cases_eq, not_true as unset, nat_tests, slice_index, slice_index_or, take, nat_lt, ◌==◌, list_any, Kind, Read, Write, Note, GranuleNotes, blank, has_note, of_kind, ListsNoted, note_of, site_at, Code, Instr, Shape, Stage, Clears, FreeClears, Withdraws, WithdrawsFrom, Leaves, TurnState as PlaceState, Ended, granules, granule_at, Machine, act, exit, withdraws, withdrew, at_stage, row_of, ref, TurnsComeOut, is_exit, turn, after, may_go, Turn, Global, MayTurn, state_now, result_of, one_thread, bounds, Touch, Untouched, CheckOf, WithdrawOf, cleared_by, freed_by, withdrawn_by, touch_of, Heap, Labels, touch_at, State, StageStands, OnExit, Targets, has_withdrawn, is_withdrawing, is_ended, World, same_is, yes, same_or}, TurnAt.turn_at, Outcomes.{unended, withdraws_still}, Shadows.{row_low, at_low}, Carried.put_same}
+use Rattle.sharc_history_laws.proofs.{Imports.{◌≡◌, ℕ, zero, suc, ◌+◌, ◌<◌, ◌≤◌, Bool, true, false, ◌||◌, length, List, [], ◌∷◌, Option, Some, None, is_some, if◌then◌else◌, refl, sym, ap, ◌∙◌, subst, ⊎_elim, arith, eqb-true, cases_eq, not_true as unset, nat_tests, slice_index, slice_index_or, take, nat_lt, ◌==◌, list_any, Kind, Read, Write, Note, GranuleNotes, blank, has_note, of_kind, ListsNoted, note_of, site_at, Code, Instr, Shape, Stage, Clears, FreeClears, Withdraws, WithdrawsFrom, Leaves, granules, granule_at, Machine, act, exit, withdraws, withdrew, at_stage, row_of, ref, TurnsComeOut, is_exit, turn, after, Turn, Global, MayTurn, state_now, result_of, one_thread, bounds, Touch, Untouched, CheckOf, WithdrawOf, cleared_by, freed_by, withdrawn_by, touch_of, Heap, Labels, touch_at, State, StageStands, OnExit, Targets, has_withdrawn, is_withdrawing, is_ended, World, same_is, yes, same_or, or_right}, TurnAt.turn_at, Outcomes.{unended, withdraws_still, going_on}, Shadows.{row_low, at_low}, Carried.put_same}
 use Rattle.sharc_heap.specs.Accesses.{Accesses}
 
 -- the thread has withdrawn from the granule
@@ -41,11 +41,7 @@ some_read : (a : GranuleNotes) (n : Note) → of_kind Read a ≡ Some n → has_
 some_read a n e = ap (λ (o : Option Note). is_some o || is_some a.write) e
 
 some_write : (a : GranuleNotes) (n : Note) → of_kind Write a ≡ Some n → has_note a ≡ true
-some_write a n e = ap (λ (o : Option Note). is_some a.read || is_some o) e ∙ either (is_some a.read)
-  where
-    either : (b : Bool) → (b || true) ≡ true
-    either true = refl
-    either false = refl
+some_write a n e = ap (λ (o : Option Note). is_some a.read || is_some o) e ∙ or_right (is_some a.read) true refl
 
 some_note : (a : GranuleNotes) (kind : Kind) (n : Note) → of_kind kind a ≡ Some n → has_note a ≡ true
 some_note a Read n e = some_read a n e
@@ -78,10 +74,6 @@ calm_left (Withdraws row) order ended p e = absurd (yes e)
 calm_left (WithdrawsFrom row seen) order ended p e = absurd (yes e)
 calm_left Leaves order ended p e = absurd (yes e)
 calm_left _ order ended p e = refl
-
-going_on : (y : PlaceState) → may_go y ≡ true → is_ended y ≡ false
-going_on Ended e = absurd (yes (sym e))
-going_on _ e = refl
 
 -- ---- one turn
 module _ (outs : TurnsComeOut) (x : Targets) (code : Code) (s : Shape) (ls : Labels) (g : Global Machine) (world : World) (st : State x code s ls g world) (tr : Turn) (may : MayTurn bounds (one_thread code s) g tr) where
@@ -151,18 +143,6 @@ module _ (outs : TurnsComeOut) (x : Targets) (code : Code) (s : Shape) (ls : Lab
   is_at : (y : Machine) → after (turn code s (g.threads tr.thread)) (result_of tr.event) ≡ y → m' ≡ y
   is_at y e = put_same g.threads tr.thread (state_now (one_thread code s) g tr) ∙ e
 
-  untouched : (q : ℕ) → Untouched ≡ WithdrawOf q → ⊥
-  untouched q e = cc
-
-  no_check : (kind : Kind) (q : ℕ) (ok : Bool) → Untouched ≡ CheckOf kind q ok → ⊥
-  no_check kind q ok e = cc
-
-  no_withdrawn : (a : ℕ) (kind : Kind) (q : ℕ) (ok : Bool) → WithdrawOf a ≡ CheckOf kind q ok → ⊥
-  no_withdrawn a kind q ok e = cc
-
-  same_granule : (a b : ℕ) → WithdrawOf a ≡ WithdrawOf b → a ≡ b
-  same_granule a b e = cc
-
   -- a turn of Exit
   abbrev StageAt : Stage → Type 0
   StageAt y = StageStands code s st.elements world st.heap g.words tr.thread (g.threads tr.thread) Instr.Exit y
@@ -181,11 +161,11 @@ module _ (outs : TurnsComeOut) (x : Targets) (code : Code) (s : Shape) (ls : Lab
         | true ↦ record {
           still = λ p e. to_row (row + 1) (omega arith) p (more_first order row p (sym (here p) ∙ e));
           once = λ p e.
-              let same : p ≡ n = sym (same_granule q p e) ∙ q_is in
+              let same : p ≡ n = cc in
               here p ∙ unset (among p row order) (λ z.
               let k = of_first order row p z in
               lists.once k.row row 0 k.before lt (k.is ∙ same));
-          then_ = λ p e. let same : p ≡ n = sym (same_granule q p e) ∙ q_is in to_row (row + 1) (omega arith) p (in_first order (row + 1) row p (omega arith) lt (sym same));
+          then_ = λ p e. let same : p ≡ n = cc in to_row (row + 1) (omega arith) p (in_first order (row + 1) row p (omega arith) lt (sym same));
           others = λ p ne noted e. from_row (row + 1) (omega arith) p noted (unset (among p (row + 1) order) (λ z.
               let k = of_first order (row + 1) p z in
               let before = k.before in
@@ -193,9 +173,9 @@ module _ (outs : TurnsComeOut) (x : Targets) (code : Code) (s : Shape) (ls : Lab
               (λ (last : k.row ≡ row). ne (ap WithdrawOf (q_is ∙ sym (ap (slice_index order) last) ∙ k.is)))
               (λ (other : k.row ≡ row → ⊥). yes (sym (in_first order row k.row p (less k.row row before other) k.on k.is) ∙ sym (here p) ∙ e))
               (cases_eq k.row row)));
-          checks = λ kind p ok e. absurd (no_withdrawn q kind p ok e);
+          checks = λ kind p ok e _. cc;
         }
-        | false ↦ alike Untouched (at_stage m (WithdrawsFrom row found)) untouched no_check (λ p. sym (here p))
+        | false ↦ alike Untouched (at_stage m (WithdrawsFrom row found)) (λ q e. cc) (λ kind q ok e. cc) (λ p. sym (here p))
       ]
     where
       less : (a b : ℕ) → a < b + 1 → (a ≡ b → ⊥) → a < b
@@ -206,10 +186,10 @@ module _ (outs : TurnsComeOut) (x : Targets) (code : Code) (s : Shape) (ls : Lab
       let none : (p : ℕ) → has_left m p ≡ false = λ p. at_stage_left y at p ∙ calm_left y order (is_ended m.at.state) p calm ∙ going' in
       record {
         still = λ p e. absurd (yes (sym e ∙ none p));
-        once = λ q e. absurd (untouched q e);
-        then_ = λ q e. absurd (untouched q e);
+        once = λ q e. cc;
+        then_ = λ q e. cc;
         others = λ p _ noted _. from_row 0 (omega arith) p noted (nothing p order);
-        checks = λ kind q ok e. absurd (no_check kind q ok e);
+        checks = λ kind q ok e p. cc;
       }
     where
       nothing : (p : ℕ) (xs : List ℕ) → among p 0 xs ≡ false
@@ -217,20 +197,18 @@ module _ (outs : TurnsComeOut) (x : Targets) (code : Code) (s : Shape) (ls : Lab
       nothing p (h ∷ xs) = refl
 
   to_exit : (y : Stage) → (g.threads tr.thread).own.stage ≡ y → StageAt y → Leaving (withdrawn_by s (g.threads tr.thread) found y) (after (exit s (g.threads tr.thread) y) found)
-  to_exit (Withdraws row) at h = alike Untouched (at_stage m (WithdrawsFrom row found)) untouched no_check (λ p. sym (at_stage_left (Withdraws row) at p))
+  to_exit (Withdraws row) at h = alike Untouched (at_stage m (WithdrawsFrom row found)) (λ q e. cc) (λ kind q ok e. cc) (λ p. sym (at_stage_left (Withdraws row) at p))
   to_exit (WithdrawsFrom row seen) at h = to_withdrew row seen at h
   to_exit Leaves at h = record {
     still = λ p e. refl;
-    once = λ q e. absurd (untouched q e);
-    then_ = λ q e. absurd (untouched q e);
+    once = λ q e. cc;
+    then_ = λ q e. cc;
     others = λ p _ _ e. absurd (yes (sym (at_stage_left Leaves at p) ∙ e));
-    checks = λ kind q ok e. absurd (no_check kind q ok e);
+    checks = λ kind q ok e p. cc;
   }
   to_exit y at h = to_first y at refl
 
   other_touch : (j : Instr) → is_exit j ≡ false → (q : ℕ) → touch_of s j (g.threads tr.thread) found m' ≡ WithdrawOf q → ⊥
-  other_touch (Instr.ChkRead c site) e q h = cc
-  other_touch (Instr.ChkWrite c site) e q h = cc
   other_touch (Instr.Clear r count) e q h = cleared m.own.stage h
     where
       cleared : (y : Stage) → cleared_by s (ref (g.threads tr.thread) r) y ≡ WithdrawOf q → ⊥

@@ -1,5 +1,9 @@
 -- The source events of each run of typed code that tell who waits may come after those before them.
-use Rattle.sharc_history_laws.proofs.{Imports.{◌≡◌, ℕ, pos, zero, suc, ◌+◌, ◌<◌, ◌^◌, ◌⊎◌, inl, inr, Bool, true, false, List, [], ◌∷◌, reverse, Option, Some, None, if◌then◌else◌, refl, sym, ap, ◌∙◌, subst, ⊎_elim, eqb-true, cases_eq, not_true, slice_index, ◌==◌, WordOp, Act, Object, CellAt, SourceEvent, Resolution, WaitersLaws, waits_in, lowest_of, without_lowest, Code, Cell, Instr, Shape, Stage, Wakes, RunLaws, Fits, Machine, word, act, signal, step_of, opening_words, turn, after, asked_by, Turn, Global, IsRun, MayTurn, after_turn, put, state_now, result_of, opening_of, said, cell_at, nobody, in_signal, event_at, one_thread, bounds, place_after, said_now, table_of, Stands, History, MayCome, is_waiter, Targets, Labels, IsWellTyped, IsSmall, Keeps, CodeBegins, CellsAreThere, PointersAreThere, AccessesAreAllowed, StateStands, history_of, BeginsWith, is_about_waiters, WaitsFollow, yes, is_condition}, TurnAt.{turn_at, told_at}, Consists.{Consists, consists_then, at_first, found_is}, Contents.{IsCellOf, content_of, word_of_cell}, Emptying.IsEmptied, Outcomes.{wakes_still, wakes_nobody}, Lists.{Newest, Split, Last, Earlier, split}, Opening.{waiters_first, only_globals}, Queued.{waits_by, waiter_is, condition_of, condition_said, no_condition}, Rules.{pushed, newest, newest_now}, Shared.number_of, Sparing.holds_waiters, Touches.waited_cell, Waiting.{WaitersStand, WordsTell, Here, here, here_at_wait, bit_here, words_then, stands_then}, Logged.{above as positive}, Carried.{put_same, put_other}}
+use Rattle.sharc_history_laws.proofs.{Imports.{◌≡◌, ℕ, pos, zero, suc, ◌+◌, ◌<◌, ◌^◌, ◌⊎◌, inl, inr, Bool, true, false, List, [], reverse, Option, Some, None, if◌then◌else◌, refl, sym, ap, ◌∙◌, subst, ⊎_elim, eqb-true, cases_eq, not_true, slice_index, ◌==◌, WordOp, Act, Object, CellAt, SourceEvent, Resolution, WaitersLaws, waits_in, lowest_of, without_lowest, Code, Cell, Instr, Shape, Stage, Wakes, RunLaws, Fits, Machine, word, act, signal, step_of, opening_words, turn, after, asked_by, Turn, Global, IsRun, MayTurn, after_turn, put, state_now, result_of, opening_of, said, cell_at, nobody, in_signal, event_at, one_thread, bounds, place_after, said_now, table_of, History, MayCome, is_waiter, Targets, Labels, IsWellTyped, IsSmall, Keeps, CodeBegins, CellsAreThere, PointersAreThere, AccessesAreAllowed, StateStands, history_of, BeginsWith, is_about_waiters, WaitsFollow, yes, is_condition}, TurnAt.{turn_at, told_at}, Consists.{Consists, at_first, found_is}, Contents.{IsCellOf, content_of, word_of_cell}, Emptying.IsEmptied, Outcomes.{wakes_still, wakes_nobody}, Lists.{Newest, Each, no_event}, Opening.{waiters_first, only_globals}, Queued.{waits_by, waiter_is, condition_of, condition_said, no_condition}, Rules.{over_runs, each_pushed, newest}, Shared.number_of, Sparing.holds_waiters, Touches.waited_cell, Waiting.{WaitersStand, WordsTell, Here, here, here_at_wait, bit_here, words_then, stands_then}, Logged.{above as positive}, Carried.{put_same, put_other}}
+
+-- what tells who waits may come
+abbrev pub IsTold : Resolution → History → SourceEvent → Type 0
+IsTold r before e = is_about_waiters e.act ≡ true → MayCome r before e e.act
 
 -- ---- one turn
 module _ (bits : WaitersLaws) (state_law : StateStands) (cell_laws : CellsAreThere) (pointers : PointersAreThere) (rights : AccessesAreAllowed) (laws : RunLaws) (keeps : Keeps) (x : Targets) (code : Code) (s : Shape) (ls : Labels) (wt : IsWellTyped x code ls) (fits : Fits code s) (few : IsSmall code s)
@@ -23,7 +27,7 @@ module _ (bits : WaitersLaws) (state_law : StateStands) (cell_laws : CellsAreThe
   -- ---- events
   abbrev Legal : Option SourceEvent → Type 0
   Legal None = Unit {0}
-  Legal (Some e) = is_about_waiters e.act ≡ true → MayCome r (reverse L) e e.act
+  Legal (Some e) = IsTold r (reverse L) e
 
   plain_legal : (ev : Option SourceEvent) → condition_said ev ≡ None → Legal ev
   plain_legal None e = tt
@@ -86,66 +90,39 @@ module _ (bits : WaitersLaws) (state_law : StateStands) (cell_laws : CellsAreThe
       by _ is = plain_legal event (no_condition code m laws.turns.tells i found elements (ap is_condition is))
 
 -- ---- runs
-abbrev pub EachIsTold : Resolution → History → Type 0
-EachIsTold r R = (before : History) (e : SourceEvent) (after : History) → Stands R before e after → is_about_waiters e.act ≡ true → MayCome r before e e.act
-
-none_yet : (r : Resolution) → EachIsTold r []
-none_yet r [] e after stands = absurd (cc)
-none_yet r (b ∷ bs) e after stands = absurd (cc)
-
-abbrev LegalIn : Resolution → Newest → Option SourceEvent → Type 0
-LegalIn r L None = Unit {0}
-LegalIn r L (Some e) = is_about_waiters e.act ≡ true → MayCome r (reverse L) e e.act
-
-one_more : (r : Resolution) (e : SourceEvent) (L : Newest) → EachIsTold r (reverse L) → LegalIn r L (Some e) → EachIsTold r (reverse (e ∷ L))
-one_more r e L old new before d later stands = by (split e L before d later stands)
-  where
-    by : Split e L before d later → is_about_waiters d.act ≡ true → MayCome r before d d.act
-    by (Last b same n) = subst (λ before. is_about_waiters d.act ≡ true → MayCome r before d d.act) (sym b) (subst (λ (d : SourceEvent). is_about_waiters d.act ≡ true → MayCome r (reverse L) d d.act) (sym same) new)
-    by (Earlier rest n stands') = old before d rest stands'
-
-with_event : (r : Resolution) (ev : Option SourceEvent) (L : Newest) → EachIsTold r (reverse L) → LegalIn r L ev → EachIsTold r (reverse (pushed ev L))
-with_event r None L old new = old
-with_event r (Some e) L old new = one_more r e L old new
-
 pub record Awaited (r : Resolution) (x : Targets) (code : Code) (s : Shape) (ls : Labels) (run : List Turn) : Type 0 where
   pub consists : Consists x code s ls run
   pub stand : WaitersStand code (newest code s run) (place_after code s run)
   pub words : WordsTell x code s (newest code s run) (place_after code s run) consists.world consists.state.cells
   pub wakes : (u : ℕ) → wakes_nobody ((place_after code s run).threads u).own.stage ≡ false
-  pub legal : EachIsTold r (history_of code s run)
+  pub legal : Each (IsTold r) (history_of code s run)
 
 module _ (bits : WaitersLaws) (state_law : StateStands) (cell_laws : CellsAreThere) (pointers : PointersAreThere) (rights : AccessesAreAllowed) (laws : RunLaws) (begins_law : CodeBegins) (keeps : Keeps) (x : Targets) (code : Code) (s : Shape) (ls : Labels) (wt : IsWellTyped x code ls) (fits : Fits code s) (few : IsSmall code s)
     (follow : WaitsFollow code) (r : Resolution) (first : BeginsWith r code) where
   pub awaited : (run : List Turn) → IsRun bounds (one_thread code s) (opening_of bounds (one_thread code s) (opening_words code s)) run → Awaited r x code s ls run
-  awaited [] run = record {
-    consists = at_first begins_law x code s ls wt fits;
-    stand = λ c u w. absurd (yes (sym w));
-    words = λ c cell holds. opened c c.object refl cell holds;
-    wakes = λ u. refl;
-    legal = none_yet r;
-  }
+  awaited run is =
+      let k = over_runs cell_laws pointers laws begins_law keeps x code s ls wt fits few
+      (λ run h L. record {
+        stand : WaitersStand code L (place_after code s run);
+        words : WordsTell x code s L (place_after code s run) h.world h.state.cells;
+        wakes : (u : ℕ) → wakes_nobody ((place_after code s run).threads u).own.stage ≡ false;
+        legal : Each (IsTold r) (reverse L);
+      })
+      (record { stand = λ c u w. absurd (yes (sym w)); words = λ c cell holds. opened c c.object refl cell holds; wakes = λ u. refl; legal = no_event (IsTold r) })
+      (λ one earlier h may _ old.
+      let L = newest code s earlier in
+      let ev = said_now code (table_of code s earlier) ((place_after code s earlier).threads one.thread) (result_of one.event) in
+      record {
+        stand = λ c u w. stands_then bits cell_laws pointers rights laws keeps x code s ls wt fits few one earlier h may L old.stand old.words old.wakes state_law follow c u w;
+        words = words_then bits cell_laws pointers rights laws keeps x code s ls wt fits few one earlier h may L old.stand old.words old.wakes;
+        wakes = wakes_then bits state_law cell_laws pointers rights laws keeps x code s ls wt fits few one earlier h may r L old.stand old.words old.wakes;
+        legal = each_pushed (IsTold r) ev L old.legal (λ e is. subst (Legal bits state_law cell_laws pointers rights laws keeps x code s ls wt fits few one earlier h may r L old.stand old.words old.wakes) is
+            (legal_now bits state_law cell_laws pointers rights laws keeps x code s ls wt fits few one earlier h may r L old.stand old.words old.wakes));
+      }) run is in
+      record { consists = k.0; stand = k.1.stand; words = k.1.words; wakes = k.1.wakes; legal = k.1.legal }
     where
       opened : (c : CellAt) (b : Object) → c.object ≡ b → IsCellOf code (at_first begins_law x code s ls wt fits).world (at_first begins_law x code s ls wt fits).state.cells c
           → holds_waiters (content_of x code (at_first begins_law x code s ls wt fits).world c) ≡ true
           → ((u : ℕ) → waits_by [] c u ≡ waits_in (slice_index (place_after code s []).words (word_of_cell code s c)) u) ⊎ IsEmptied code (place_after code s []) (number_of c.object)
       opened c (Object.Global q) is cell holds = inl (λ u. sym (ap (λ n. waits_in n u) (waiters_first begins_law x code s ls wt fits r first q c is cell holds) ∙ bits.empty u))
       opened c (Object.Made n) is cell holds = absurd (only_globals begins_law x code s ls wt fits r first n c is cell)
-  awaited (one ∷ earlier) run =
-      let old = awaited earlier run.0 in
-      let h = old.consists in
-      let may = run.1 in
-      let L = newest code s earlier in
-      let ev = said_now code (table_of code s earlier) ((place_after code s earlier).threads one.thread) (result_of one.event) in
-      let now = newest_now code s one earlier in
-      let then' = consists_then laws keeps cell_laws pointers x code s ls wt fits few one earlier h may in
-      let words = words_then bits cell_laws pointers rights laws keeps x code s ls wt fits few one earlier h may L old.stand old.words old.wakes in
-      let stand = stands_then bits cell_laws pointers rights laws keeps x code s ls wt fits few one earlier h may L old.stand old.words old.wakes state_law follow in
-      record {
-        consists = then';
-        stand = subst (λ (L : Newest). WaitersStand code L (place_after code s (one ∷ earlier))) (sym now) (λ c u w. stand c u w);
-        words = subst (λ (L : Newest). WordsTell x code s L (place_after code s (one ∷ earlier)) then'.world then'.state.cells) (sym now) words;
-        wakes = wakes_then bits state_law cell_laws pointers rights laws keeps x code s ls wt fits few one earlier h may r L old.stand old.words old.wakes;
-        legal = subst (λ (L : Newest). EachIsTold r (reverse L)) (sym now)
-            (with_event r ev L old.legal (legal_now bits state_law cell_laws pointers rights laws keeps x code s ls wt fits few one earlier h may r L old.stand old.words old.wakes));
-      }

@@ -1,21 +1,12 @@
 -- The locking source is that program, with its least modes.
-use Rattle.sharc_instance_laws.proofs.{Imports.{◌≡◌, ℕ, suc, ◌<◌, [], ◌∷◌, refl, arith, Apart, finding_at, IsInferred, IsUnwritten, flow_of, place_at, PositionKind, reading, keywords, IsProgram, LowProgram, Reads, IsResolved, IsLeastAssignment, IsPlaceFor, IsReasonFor, links_of, mode_found, reason_at, settled_at, Private, Ok, slice_index_or, IsFront, locking_source, clash}, Locking.{phrases, program, resolution, locking, modes, tokens}, SharedFront.beyond}
+use Rattle.sharc_instance_laws.proofs.{Imports.{◌≡◌, ℕ, suc, ◌<◌, [], ◌∷◌, refl, arith, Apart, finding_at, IsInferred, IsUnwritten, flow_of, place_at, PositionKind, reading, keywords, Reads, IsLeastAssignment, IsPlaceFor, IsReasonFor, links_of, mode_found, reason_at, settled_at, Private, Ok, slice_index_or, IsFront, locking_source, clash}, Locking.{phrases, program, resolution, locking, modes, tokens}, SharedFront.beyond}
 
 read : reading locking_source ≡ Ok tokens
 unfolding reading keywords
 read = refl
 
-is_program : IsProgram phrases
-is_program = search arith
-
-within : LowProgram phrases
-within = search arith
-
 reads : Reads tokens program
-reads = record { phrases = phrases; is_program = is_program; within = within; spelled = refl; placed = refl; keeps_tokens = refl; keeps_files = refl }
-
-resolved : IsResolved resolution
-resolved = record { typed = refl; named = refl }
+reads = record { phrases = phrases; is_program = search arith; within = search arith; spelled = refl; placed = refl; keeps_tokens = refl; keeps_files = refl }
 
 -- each position has its mode written, or is that of a mutex
 places_are : (position : ℕ) → IsPlaceFor resolution position (settled_at resolution position) (place_at (PositionKind.Other ∷ PositionKind.Other ∷ []) position)
@@ -51,4 +42,4 @@ least = record {
 }
 
 pub front : IsFront locking_source locking
-front = record { typed = record { tokens = tokens; read = read; reads = reads; resolved = resolved }; least = least }
+front = record { typed = record { tokens = tokens; read = read; reads = reads; resolved = record { typed = refl; named = refl } }; least = least }

@@ -11,6 +11,7 @@ pub mod Locking
 pub mod Numbers
 pub mod SharedFront
 pub mod Sharing
+pub mod Spelling
 pub mod Stopping
 pub mod Testing
 pub mod Touching

@@ -1,21 +1,12 @@
 -- The sharing source is that program, with its least modes.
-use Rattle.sharc_instance_laws.proofs.{Imports.{◌≡◌, ℕ, zero, suc, ◌<◌, false, [], ◌∷◌, refl, arith, Apart, finding_at, IsInferred, IsUnwritten, flow_of, place_at, PositionKind, reading, keywords, IsProgram, LowProgram, Reads, IsResolved, Spawns, IsLeastAssignment, IsPlaceFor, IsReasonFor, links_of, mode_found, reason_at, settled_at, TellsTouched, WellModed, Private, Ok, slice_index_or, IsFront, sharing_source, clash}, Sharing.{phrases, program, resolution, sharing, modes, tokens}}
+use Rattle.sharc_instance_laws.proofs.{Imports.{◌≡◌, ℕ, zero, suc, ◌<◌, false, [], ◌∷◌, refl, arith, Apart, finding_at, IsInferred, IsUnwritten, flow_of, place_at, PositionKind, reading, keywords, Reads, Spawns, IsLeastAssignment, IsPlaceFor, IsReasonFor, links_of, mode_found, reason_at, settled_at, TellsTouched, WellModed, Private, Ok, slice_index_or, IsFront, sharing_source, clash}, Sharing.{phrases, program, resolution, sharing, modes, tokens}}
 
 read : reading sharing_source ≡ Ok tokens
 unfolding reading keywords
 read = refl
 
-is_program : IsProgram phrases
-is_program = search arith
-
-within : LowProgram phrases
-within = search arith
-
 reads : Reads tokens program
-reads = record { phrases = phrases; is_program = is_program; within = within; spelled = refl; placed = refl; keeps_tokens = refl; keeps_files = refl }
-
-resolved : IsResolved resolution
-resolved = record { typed = refl; named = refl }
+reads = record { phrases = phrases; is_program = search arith; within = search arith; spelled = refl; placed = refl; keeps_tokens = refl; keeps_files = refl }
 
 -- each position has its mode written, or is that of a mutex
 places_are : (position : ℕ) → IsPlaceFor resolution position (settled_at resolution position) (place_at (PositionKind.Private ∷ PositionKind.Private ∷ []) position)
@@ -65,4 +56,4 @@ pub well_moded : WellModed sharing
 well_moded = record { touched = λ g. false; tells = tells; are = refl }
 
 pub front : IsFront sharing_source sharing
-front = record { typed = record { tokens = tokens; read = read; reads = reads; resolved = resolved }; least = least }
+front = record { typed = record { tokens = tokens; read = read; reads = reads; resolved = record { typed = refl; named = refl } }; least = least }

@@ -1,5 +1,5 @@
 -- A mutex is taken or given back: what the words and the logs then show of the world, and who holds which.
-use Rattle.sharc_invariant.proofs.{Imports.{◌≡◌, ℕ, suc, ◌+◌, ◌<◌, ◌≢◌, true, List, sym, ap, ◌∙◌, subst, ⊎_elim, arith, ◌↔◌, is_some, Contains, THREADS, HeldMutex, object_of, Shape, Machine, Global, put, put_same, put_other, put_all, Targets, Content, field_in, is_mutex, Integer, TypedReference, Slot, LogOf, In, World, place, put2, MachineView, Shows, Apart, FitsContent, Reads, shadow_at, count_at, length_at, cell_at, store, made_turn, Locks}, Effects.{place_same, place_other}, Seen.{pointer_no_mutex, put2_at, put2_off, cell_cell, cell_count, cell_length, stale_off, holder_stored}, Listed.pair_cases}
+use Rattle.sharc_invariant.proofs.{Imports.{◌≡◌, ℕ, suc, ◌+◌, ◌<◌, ◌≢◌, true, List, sym, ap, ◌∙◌, subst, ⊎_elim, arith, ◌↔◌, is_some, Contains, THREADS, HeldMutex, object_of, Shape, Machine, Global, put, put_same, put_other, put_all, Targets, Content, field_in, is_mutex, Integer, TypedReference, Slot, LogOf, In, World, place, put2, MachineView, Shows, Apart, FitsContent, Reads, shadow_at, count_at, length_at, cell_at, store, made_turn, Locks}, Effects.{place_same, place_other}, Seen.{pointer_no_mutex, put2_at, put2_off, set_cell, holder_stored}, Listed.pair_cases}
 
 mutex_fits : (h : Content) (v : ℕ) → is_mutex h ≡ true → FitsContent h v
 mutex_fits (Integer w) v e = absurd (cc)
@@ -10,34 +10,8 @@ module _ (x : Targets) (s : Shape) (cells elements : ℕ → ℕ) (c : MachineVi
   -- the cell of a mutex
   pub mutex_stored : (o i v : ℕ) → (w.obj o).live ≡ true → i < cells o → is_mutex (field_in x (w.obj o).ty i).holds ≡ true
       → Shows x s cells elements (store c (cell_at s o i) v) (record w { mutex = put2 w.mutex o i v })
-  mutex_stored o i v lo li mx =
-      let k = cell_at s o i in
-      let off : (j : ℕ) → (j ≡ k → ⊥) → c.words j ≡ put c.words k v j = λ j ne. sym (put_other c.words k j v ne) in
-      let cell_off : (p j : ℕ) → (w.obj p).live ≡ true → j < cells p → (p ≡ o → j ≡ i → ⊥) → c.words (cell_at s p j) ≡ put c.words k v (cell_at s p j) = λ p j lp lt ne.
-      off (cell_at s p j) (λ e. let q = cell_cell x s cells elements c w sim lie o i p j lo lp li lt e in ne q.0 q.1) in
-      let is_mx : (p j : ℕ) → (p ≡ o) × (j ≡ i) → is_mutex (field_in x (w.obj p).ty j).holds ≡ true = λ p j e.
-      let P : ℕ → ℕ → Type 0 = λ p j. is_mutex (field_in x (w.obj p).ty j).holds ≡ true in subst (λ p. P p j) (sym e.0) (subst (P o) (sym e.1) mx) in
-      record {
-        regs = sim.regs;
-        args = sim.args;
-        logs = sim.logs;
-        staged = sim.staged;
-        others = sim.others;
-        pointers = λ p j lp lt pt. sim.pointers p j lp lt pt ∙ cell_off p j lp lt (λ ep ej. pointer_no_mutex (field_in x (w.obj p).ty j).holds pt (is_mx p j (ep, ej)));
-        integers = λ p j lp lt. ⊎_elim
-            (λ (e : (p ≡ o) × (j ≡ i)). mutex_fits (field_in x (w.obj p).ty j).holds (put c.words k v (cell_at s p j)) (is_mx p j e))
-            (λ (ne : p ≡ o → j ≡ i → ⊥). subst (FitsContent (field_in x (w.obj p).ty j).holds) (cell_off p j lp lt ne) (sim.integers p j lp lt))
-            (pair_cases p o j i);
-        counts = λ p nz lp. sim.counts p nz lp ∙ off (count_at s p) (λ e. cell_count x s cells elements c w sim lie p o i lp lo li (sym e));
-        lengths = λ p nz lp. sim.lengths p nz lp ∙ off (length_at s p) (λ e. cell_length x s cells elements c w sim lie p o i lp lo li (sym e));
-        mutexes = λ p j lp lt m. ⊎_elim
-            (λ (e : (p ≡ o) × (j ≡ i)). let P : ℕ → ℕ → Type 0 = λ p j. put2 w.mutex o i v p j ≡ put c.words k v (cell_at s p j) in
-            subst (λ p. P p j) (sym e.0) (subst (P o) (sym e.1) (put2_at w.mutex o i v ∙ sym (put_same c.words k v))))
-            (λ (ne : p ≡ o → j ≡ i → ⊥). sym (put2_off w.mutex o i p j v ne) ∙ sim.mutexes p j lp lt m ∙ cell_off p j lp lt ne)
-            (pair_cases p o j i);
-        shadows = λ p g lp lt. let a = lie.within p g lp lt in subst (λ n. Reads n c.read_notes c.write_notes (p + 1 + g) (w.gran p g)) (off (shadow_at s (p + 1 + g)) (λ e. omega arith)) (sim.shadows p g lp lt);
-        stale = stale_off s w.obj cells c.words (put c.words k v) c.read_notes c.write_notes (λ p lt. off (shadow_at s p) (λ e. omega arith)) sim.stale;
-      }
+  mutex_stored o i v lo li mx = set_cell x s cells elements c w sim lie o i v lo li w.slots (put2 w.mutex o i v) (λ a. refl) sim.others (λ z. absurd (pointer_no_mutex (field_in x (w.obj o).ty i).holds z mx)) (λ p j ne. refl)
+      (mutex_fits (field_in x (w.obj o).ty i).holds v mx) (λ _. put2_at w.mutex o i v) (λ p j ne. sym (put2_off w.mutex o i p j v ne))
 
   -- the entry of a log
   pub log_stored : (t k : ℕ) (y : TypedReference) → Shows x s cells elements (record c { logs = put2 c.logs t k y.reference }) (record w { slots = place w.slots (In (LogOf t k)) y })

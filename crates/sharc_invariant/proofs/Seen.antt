@@ -1,5 +1,5 @@
 -- What the machine does to its words and registers is what the proof's world does.
-use Rattle.sharc_invariant.proofs.{Imports.{◌≡◌, ℕ, ◌+◌, ◌*◌, ◌<◌, ◌≢◌, true, false, refl, sym, ap, ◌∙◌, subst, ⊎_elim, arith, ◌≤◌, cases_eq, cases_order, Shape, put, granules, put_same, put_other, put_all, GranuleState, Targets, Content, field_in, is_mutex, is_pointer, Integer, TypedReference, Holder, RegisterOf, ArgumentOf, LogOf, Staged, In, CellOf as Cell, World, in_ref, place, put2, ObjectState, MachineView, Shows, Apart, FitsContent, Reads, shadow_at, count_at, length_at, cell_at, store, set_reg, AreStale, epoch_of}, Effects.{place_same, place_other, place_all, slot_cases}, Listed.{pair_cases, put2_other as put2_away}}
+use Rattle.sharc_invariant.proofs.{Imports.{◌≡◌, ℕ, ◌+◌, ◌*◌, ◌<◌, ◌≢◌, true, false, refl, sym, ap, ◌∙◌, subst, ⊎_elim, arith, ◌≤◌, cases_eq, cases_order, Shape, put, granules, put_same, put_other, put_all, GranuleState, Targets, Content, field_in, is_mutex, is_pointer, Integer, TypedReference, Holder, RegisterOf, ArgumentOf, LogOf, Staged, Slot, In, CellOf as Cell, World, in_ref, place, put2, ObjectState, MachineView, Shows, Apart, FitsContent, Reads, shadow_at, count_at, length_at, cell_at, store, set_reg, AreStale, epoch_of}, Effects.{place_same, place_other, place_all, slot_cases}, Listed.{pair_cases, put2_other as put2_away}}
 
 pub put2_at : {A : Type 0} (f : ℕ → ℕ → A) (t i : ℕ) (v : A) → put2 f t i v t i ≡ v
 put2_at {A} f t i v = ap (λ (k : ℕ → A). k i) (put_same f t (put (f t) i v)) ∙ put_same (f t) i v
@@ -86,70 +86,54 @@ module _ (x : Targets) (s : Shape) (cells elements : ℕ → ℕ) (c : MachineVi
         stale = stale_off s w.obj cells c.words (put c.words k v) c.read_notes c.write_notes (λ p lt. off (shadow_at s p) (λ e. omega arith)) sim.stale;
       }
 
+  -- a fact of each cell and its word, when the word of one is set
+  each_cell : (o i v : ℕ) → (w.obj o).live ≡ true → i < cells o → (P : ℕ → ℕ → ℕ → Type 0) → P o i v → ((p j : ℕ) → (w.obj p).live ≡ true → j < cells p → (p ≡ o → j ≡ i → ⊥) → P p j (c.words (cell_at s p j)))
+      → (p j : ℕ) → (w.obj p).live ≡ true → j < cells p → P p j (put c.words (cell_at s o i) v (cell_at s p j))
+  each_cell o i v lo li P here old p j lp lj = ⊎_elim
+      (λ (e : (p ≡ o) × (j ≡ i)). let Q : ℕ → ℕ → Type 0 = λ p j. P p j (put c.words (cell_at s o i) v (cell_at s p j)) in
+      subst (λ p. Q p j) (sym e.0) (subst (Q o) (sym e.1) (subst (P o i) (sym (put_same c.words (cell_at s o i) v)) here)))
+      (λ (ne : p ≡ o → j ≡ i → ⊥). subst (P p j) (sym (put_other c.words (cell_at s o i) (cell_at s p j) v (λ e. let q = cell_cell o i p j lo lp li lj e in ne q.0 q.1))) (old p j lp lj ne))
+      (pair_cases p o j i)
+
+  -- a cell, where the world has the same elsewhere
+  pub set_cell : (o i v : ℕ) → (w.obj o).live ≡ true → i < cells o → (slots : Slot → TypedReference) (mutex : ℕ → ℕ → ℕ) → ((a : Holder) → (slots (In a)).reference ≡ in_ref w a)
+      → ((p j : ℕ) → (slots (Cell p j)).reference ≢ 0 → (j < cells p) × (is_pointer (field_in x (w.obj p).ty j).holds ≡ true))
+      → (is_pointer (field_in x (w.obj o).ty i).holds ≡ true → (slots (Cell o i)).reference ≡ v) → ((p j : ℕ) → (p ≡ o → j ≡ i → ⊥) → slots (Cell p j) ≡ w.slots (Cell p j)) → FitsContent (field_in x (w.obj o).ty i).holds v
+      → (is_mutex (field_in x (w.obj o).ty i).holds ≡ true → mutex o i ≡ v) → ((p j : ℕ) → (p ≡ o → j ≡ i → ⊥) → mutex p j ≡ w.mutex p j)
+      → Shows x s cells elements (store c (cell_at s o i) v) (record w { slots = slots; mutex = mutex })
+  set_cell o i v lo li slots mutex ins others ptr other fits mx away =
+      let k = cell_at s o i in
+      let off : (j : ℕ) → (j ≡ k → ⊥) → c.words j ≡ put c.words k v j = λ j ne. sym (put_other c.words k j v ne) in
+      record {
+        regs = λ t j. ins (RegisterOf t j) ∙ sim.regs t j;
+        args = λ t. ins (ArgumentOf t) ∙ sim.args t;
+        logs = λ t word. ins (LogOf t word) ∙ sim.logs t word;
+        staged = λ t. ins (Staged t) ∙ sim.staged t;
+        others = others;
+        pointers = each_cell o i v lo li (λ p j n. is_pointer (field_in x (w.obj p).ty j).holds ≡ true → (slots (Cell p j)).reference ≡ n) ptr
+            (λ p j lp lj ne z. ap (λ (t : TypedReference). t.reference) (other p j ne) ∙ sim.pointers p j lp lj z);
+        integers = each_cell o i v lo li (λ p j n. FitsContent (field_in x (w.obj p).ty j).holds n) fits (λ p j lp lj ne. sim.integers p j lp lj);
+        mutexes = each_cell o i v lo li (λ p j n. is_mutex (field_in x (w.obj p).ty j).holds ≡ true → mutex p j ≡ n) mx (λ p j lp lj ne m. away p j ne ∙ sim.mutexes p j lp lj m);
+        counts = λ p nz lp. sim.counts p nz lp ∙ off (count_at s p) (λ e. cell_count p o i lp lo li (sym e));
+        lengths = λ p nz lp. sim.lengths p nz lp ∙ off (length_at s p) (λ e. cell_length p o i lp lo li (sym e));
+        shadows = λ p g lp lt. let a = lie.within p g lp lt in subst (λ n. Reads n c.read_notes c.write_notes (p + 1 + g) (w.gran p g)) (off (shadow_at s (p + 1 + g)) (λ e. omega arith)) (sim.shadows p g lp lt);
+        stale = stale_off s w.obj cells c.words (put c.words k v) c.read_notes c.write_notes (λ p lt. off (shadow_at s p) (λ e. omega arith)) sim.stale;
+      }
+
   -- a pointer cell
   pub cell_stored : (o i : ℕ) (y : TypedReference) → (w.obj o).live ≡ true → i < cells o → is_pointer (field_in x (w.obj o).ty i).holds ≡ true
       → Shows x s cells elements (store c (cell_at s o i) y.reference) (record w { slots = place w.slots (Cell o i) y })
-  cell_stored o i y lo li ptr =
-      let k = cell_at s o i in
-      let off : (j : ℕ) → (j ≡ k → ⊥) → c.words j ≡ put c.words k y.reference j = λ j ne. sym (put_other c.words k j y.reference ne) in
-      let cell_off : (p j : ℕ) → (w.obj p).live ≡ true → j < cells p → (Cell p j ≡ Cell o i → ⊥) → c.words (cell_at s p j) ≡ put c.words k y.reference (cell_at s p j) = λ p j lp lt ne.
-      off (cell_at s p j) (λ e. let q = cell_cell o i p j lo lp li lt e in ne (ap (λ p. Cell p j) q.0 ∙ ap (λ j. Cell o j) q.1)) in
-      record {
-        regs = sim.regs;
-        args = sim.args;
-        logs = sim.logs;
-        staged = sim.staged;
-        pointers = λ p j lp lt pt. ⊎_elim
-            (λ (e : Cell p j ≡ Cell o i). let eo : p ≡ o = cc in let ei : j ≡ i = cc in
-            ap (λ s. (place w.slots (Cell o i) y s).reference) e ∙ ap (λ (t : TypedReference). t.reference) (place_same w.slots (Cell o i) y) ∙ sym (put_same c.words k y.reference) ∙ ap (λ p. put c.words k y.reference (cell_at s p i)) (sym eo) ∙ ap (λ j. put c.words k y.reference (cell_at s p j)) (sym ei))
-            (λ (ne : Cell p j ≡ Cell o i → ⊥). ap (λ (t : TypedReference). t.reference) (place_other w.slots (Cell o i) (Cell p j) y ne) ∙ sim.pointers p j lp lt pt ∙ cell_off p j lp lt ne)
-            (slot_cases (Cell p j) (Cell o i));
-        others = λ p j. place_all (λ q (h : TypedReference). (p j : ℕ) → q ≡ Cell p j → h.reference ≢ 0 → (j < cells p) × (is_pointer (field_in x (w.obj p).ty j).holds ≡ true)) w.slots (Cell o i) y
-            (λ p j e _. let eo : o ≡ p = cc in let ei : i ≡ j = cc in let P : ℕ → ℕ → Type 0 = λ p j. (j < cells p) × (is_pointer (field_in x (w.obj p).ty j).holds ≡ true) in subst (λ p. P p j) eo (subst (P o) ei (li, ptr)))
-            (λ q ne p j e nz. sim.others p j (λ z. nz (ap (λ q. (w.slots q).reference) e ∙ z))) (Cell p j) p j refl;
-        integers = λ p j lp lt. ⊎_elim
-            (λ (e : Cell p j ≡ Cell o i). let eo : o ≡ p = cc in let ei : i ≡ j = cc in
-            let P : ℕ → ℕ → Type 0 = λ p j. is_pointer (field_in x (w.obj p).ty j).holds ≡ true in
-            pointer_fits (field_in x (w.obj p).ty j).holds (put c.words k y.reference (cell_at s p j)) (subst (λ p. P p j) eo (subst (P o) ei ptr)))
-            (λ (ne : Cell p j ≡ Cell o i → ⊥). subst (FitsContent (field_in x (w.obj p).ty j).holds) (cell_off p j lp lt ne) (sim.integers p j lp lt))
-            (slot_cases (Cell p j) (Cell o i));
-        counts = λ p nz lp. sim.counts p nz lp ∙ off (count_at s p) (λ e. cell_count p o i lp lo li (sym e));
-        lengths = λ p nz lp. sim.lengths p nz lp ∙ off (length_at s p) (λ e. cell_length p o i lp lo li (sym e));
-        mutexes = λ p j lp lt m. sim.mutexes p j lp lt m ∙ cell_off p j lp lt (λ e. let eo : o ≡ p = cc in let ei : i ≡ j = cc in
-            let P : ℕ → ℕ → Type 0 = λ p j. is_pointer (field_in x (w.obj p).ty j).holds ≡ true in pointer_no_mutex (field_in x (w.obj p).ty j).holds (subst (λ p. P p j) eo (subst (P o) ei ptr)) m);
-        shadows = λ p g lp lt. let a = lie.within p g lp lt in subst (λ n. Reads n c.read_notes c.write_notes (p + 1 + g) (w.gran p g)) (off (shadow_at s (p + 1 + g)) (λ e. omega arith)) (sim.shadows p g lp lt);
-        stale = stale_off s w.obj cells c.words (put c.words k y.reference) c.read_notes c.write_notes (λ p lt. off (shadow_at s p) (λ e. omega arith)) sim.stale;
-      }
+  cell_stored o i y lo li ptr = set_cell o i y.reference lo li (place w.slots (Cell o i) y) w.mutex (λ a. ap (λ (t : TypedReference). t.reference) (place_other w.slots (Cell o i) (In a) y (λ e. cc)))
+      (λ p j. place_all (λ q (h : TypedReference). (p j : ℕ) → q ≡ Cell p j → h.reference ≢ 0 → (j < cells p) × (is_pointer (field_in x (w.obj p).ty j).holds ≡ true)) w.slots (Cell o i) y
+      (λ p j e _. let eo : o ≡ p = cc in let ei : i ≡ j = cc in let P : ℕ → ℕ → Type 0 = λ p j. (j < cells p) × (is_pointer (field_in x (w.obj p).ty j).holds ≡ true) in subst (λ p. P p j) eo (subst (P o) ei (li, ptr)))
+      (λ q ne p j e nz. sim.others p j (λ z. nz (ap (λ q. (w.slots q).reference) e ∙ z))) (Cell p j) p j refl)
+      (λ _. ap (λ (t : TypedReference). t.reference) (place_same w.slots (Cell o i) y)) (λ p j ne. place_other w.slots (Cell o i) (Cell p j) y (λ e. ne (cc) (cc)))
+      (pointer_fits (field_in x (w.obj o).ty i).holds y.reference ptr) (λ m. absurd (pointer_no_mutex (field_in x (w.obj o).ty i).holds ptr m)) (λ p j ne. refl)
 
   -- an integer's cell
   pub integer_stored : (o i v : ℕ) → (w.obj o).live ≡ true → i < cells o → is_pointer (field_in x (w.obj o).ty i).holds ≡ false → is_mutex (field_in x (w.obj o).ty i).holds ≡ false → FitsContent (field_in x (w.obj o).ty i).holds v
       → Shows x s cells elements (store c (cell_at s o i) v) w
-  integer_stored o i v lo li np nm fits =
-      let k = cell_at s o i in
-      let off : (j : ℕ) → (j ≡ k → ⊥) → c.words j ≡ put c.words k v j = λ j ne. sym (put_other c.words k j v ne) in
-      let cell_off : (p j : ℕ) → (w.obj p).live ≡ true → j < cells p → (Cell p j ≡ Cell o i → ⊥) → c.words (cell_at s p j) ≡ put c.words k v (cell_at s p j) = λ p j lp lt ne.
-      off (cell_at s p j) (λ e. let q = cell_cell o i p j lo lp li lt e in ne (ap (λ p. Cell p j) q.0 ∙ ap (λ j. Cell o j) q.1)) in
-      record {
-        regs = sim.regs;
-        args = sim.args;
-        logs = sim.logs;
-        staged = sim.staged;
-        others = sim.others;
-        pointers = λ p j lp lt pt. sim.pointers p j lp lt pt ∙ cell_off p j lp lt (λ e. let eo : o ≡ p = cc in let ei : i ≡ j = cc in
-            let P : ℕ → ℕ → Type 0 = λ p j. is_pointer (field_in x (w.obj p).ty j).holds ≡ false in let z : is_pointer (field_in x (w.obj p).ty j).holds ≡ false = subst (λ p. P p j) eo (subst (P o) ei np) in cc);
-        integers = λ p j lp lt. ⊎_elim
-            (λ (e : Cell p j ≡ Cell o i). let eo : o ≡ p = cc in let ei : i ≡ j = cc in
-            let P : ℕ → ℕ → Type 0 = λ p j. FitsContent (field_in x (w.obj p).ty j).holds (put c.words k v (cell_at s p j)) in
-            subst (λ p. P p j) eo (subst (P o) ei (subst (FitsContent (field_in x (w.obj o).ty i).holds) (sym (put_same c.words k v)) fits)))
-            (λ (ne : Cell p j ≡ Cell o i → ⊥). subst (FitsContent (field_in x (w.obj p).ty j).holds) (cell_off p j lp lt ne) (sim.integers p j lp lt))
-            (slot_cases (Cell p j) (Cell o i));
-        counts = λ p nz lp. sim.counts p nz lp ∙ off (count_at s p) (λ e. cell_count p o i lp lo li (sym e));
-        lengths = λ p nz lp. sim.lengths p nz lp ∙ off (length_at s p) (λ e. cell_length p o i lp lo li (sym e));
-        mutexes = λ p j lp lt m. sim.mutexes p j lp lt m ∙ cell_off p j lp lt (λ e. let eo : o ≡ p = cc in let ei : i ≡ j = cc in
-            let P : ℕ → ℕ → Type 0 = λ p j. is_mutex (field_in x (w.obj p).ty j).holds ≡ false in let z : is_mutex (field_in x (w.obj p).ty j).holds ≡ false = subst (λ p. P p j) eo (subst (P o) ei nm) in cc);
-        shadows = λ p g lp lt. let a = lie.within p g lp lt in subst (λ n. Reads n c.read_notes c.write_notes (p + 1 + g) (w.gran p g)) (off (shadow_at s (p + 1 + g)) (λ e. omega arith)) (sim.shadows p g lp lt);
-        stale = stale_off s w.obj cells c.words (put c.words k v) c.read_notes c.write_notes (λ p lt. off (shadow_at s p) (λ e. omega arith)) sim.stale;
-      }
+  integer_stored o i v lo li np nm fits = set_cell o i v lo li w.slots w.mutex (λ a. refl) sim.others (λ z. let no : true ≡ false = sym z ∙ np in absurd (cc)) (λ p j ne. refl) fits (λ z. let no : true ≡ false = sym z ∙ nm in absurd (cc)) (λ p j ne. refl)
 
   -- a granule, with the notes of it
   pub shadow_stored : (o g v : ℕ) (y : GranuleState) (rn wn : ℕ → ℕ → ℕ) → (w.obj o).live ≡ true → 2 * g < cells o → Reads v rn wn (o + 1 + g) y

@@ -5,6 +5,8 @@ pub mod Waiters
 pub mod Lowest
 pub mod Unbroken
 mod About
+mod Entries
+mod Mains
 mod Counting
 mod Holding
 mod Latest

@@ -5,3 +5,4 @@ pub mod Kept
 pub mod Latest
 pub mod Reads
 pub mod Topics
+pub mod Starting

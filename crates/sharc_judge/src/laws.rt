@@ -1,4 +1,6 @@
-ghost use Rattle.sharc_judge.specs.Laws.{RuleLaws, SameLaws};
+ghost use Rattle.sharc_judge.specs.{Laws.{RuleLaws, SameLaws}, Starting.EntryLaws};
+
+use sharc_ctype_laws::laws::one_function_of_name;
 
 // Laws of the tests. A proof above has them where its function calls one of these.
 
@@ -11,3 +13,10 @@ pub fn rule_laws()
 pub fn same_laws()
     ensures { SameLaws }
 {}
+
+/// A thread may begin with a function and an argument where they are its entry, and in a legal store only there.
+pub fn entry_laws()
+    ensures { EntryLaws }
+{
+    one_function_of_name();
+}

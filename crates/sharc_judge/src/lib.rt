@@ -31,6 +31,7 @@ pub mod reads;
 pub mod rule;
 pub mod rules;
 pub mod same;
+pub mod starts;
 pub mod store;
 pub mod table;
 pub mod topics;

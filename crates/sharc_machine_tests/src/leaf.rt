@@ -8,6 +8,7 @@ mod graph;
 mod load;
 mod locks;
 mod paths;
+mod random;
 mod recorded;
 mod shadow;
 mod word;

@@ -1,5 +1,5 @@
 -- What holds a reference is listed.
-use Rattle.sharc_meaning_tests.proofs.{Imports.{◌≡◌, ◌⊎◌, inl, inr, ℕ, zero, suc, ◌+◌, ◌<◌, Bool, true, false, not, ◌&&◌, ◌||◌, List, [], ◌∷◌, ◌++◌, Option, Some, None, refl, ap, sym, subst, ◌∙◌, not_from_false, both_ways, and_parts, and_from, or_cases, eqb-true, ℤ, pos, negsuc, ◌==◌, ◌%◌, length, slice_get, slice_index_or, IsTrue, if◌then◌else◌, list_any, AllByRecursion, Base, Int, Char, Long, Mutex, Void, Struct, Act, CellAt, CellMode, Object, Global, Made, SourceEvent, WrittenType, Null, GlobalDefinition, GlobalForm, Plain, Array, Initial, Kind, object, is_pointer, is_integral, declared_kind, pointer_cells, Resolution, globals_in, global_at, IsInteger, MeetsInitial, MeetsGlobal, Assignment, is_of, is_cell, is_number, made_by, makes, same_object, same_cell, locks, unlocks, locked_by, refers, base_fields, is_pointer_in, is_pointer_of_global, is_pointer_of, passes, CellRefers, ArgumentRefers, ThreadHoldsWith, SourceRun, cell_changed, changes, value_left, form_value, global_value, initial_value, value_by, value_after, meets, is_locked, spawns, is_spawn, is_natural, SameLaws, Holder, InCell, InArgument, InMutex, InThread, IsListed, cell_refers, cell_at, mutex_at, is_passed, argument_at, in_thread_all, thread_at, by_act, holders_at, holders, thread_count}, Entries.{OneMain, placed, events_begun, follows_begun}, Latest.{LastAt, last_found, latest_last, latest_none, stands_any}, Places.{alone, in_front, in_back, of_threads, here}, Sound.{true_cell, count_is}}
+use Rattle.sharc_meaning_tests.proofs.{Imports.{Any, list_any-from_Any, ◌≡◌, ◌⊎◌, inl, inr, ℕ, zero, suc, ◌+◌, ◌<◌, Bool, true, false, not, ◌&&◌, ◌||◌, List, [], ◌∷◌, ◌++◌, Option, Some, None, refl, ap, sym, subst, ◌∙◌, not_from_false, both_ways, and_parts, and_from, or_cases, eqb-true, ℤ, pos, negsuc, ◌==◌, ◌%◌, length, slice_get, slice_index_or, IsTrue, if◌then◌else◌, list_any, AllByRecursion, Base, Int, Char, Long, Mutex, Void, Struct, Act, CellAt, CellMode, Object, Global, Made, SourceEvent, WrittenType, Null, GlobalDefinition, GlobalForm, Plain, Array, Initial, Kind, object, is_pointer, is_integral, declared_kind, pointer_cells, Resolution, globals_in, global_at, IsInteger, MeetsInitial, MeetsGlobal, Assignment, is_of, is_cell, is_number, made_by, makes, same_object, same_cell, locks, unlocks, locked_by, refers, base_fields, is_pointer_in, is_pointer_of_global, is_pointer_of, passes, CellRefers, ArgumentRefers, ThreadHoldsWith, SourceRun, cell_changed, changes, value_left, form_value, global_value, initial_value, value_by, value_after, meets, is_locked, spawns, is_spawn, is_natural, SameLaws, FindsEntries, Holder, InCell, InArgument, InMutex, InThread, IsListed, cell_refers, cell_at, mutex_at, is_passed, argument_at, in_thread_all, thread_at, by_act, holders_at, holders, thread_count}, Entries.{events_begun, follows_begun}, Latest.{LastAt, last_found, latest_last, latest_none, stands_any}, Places.{alone, in_front, in_back, of_threads, here}, Sound.{true_cell, count_is}}
 
 -- ---- what a cell has that nobody wrote
 
@@ -145,10 +145,11 @@ module _ (fuel : ℕ) (m : Assignment) (R : List SourceEvent) (n : ℕ) (same : 
 
   pub argument_listed : (thread : ℕ) → ArgumentRefers m R n thread → IsListed (InArgument thread) (holders fuel m R n)
   argument_listed thread h =
-      let at = placed (λ e. (spawns thread e ≡ true) × (passes m.typed n e.act ≡ true)) R h.spawned in
-      let some : list_any (is_passed m.typed n thread) R ≡ true = ap (list_any (is_passed m.typed n thread)) at.stands ∙ stands_any (is_passed m.typed n thread) at.before at.element at.after (and_from _ _ at.is.0 at.is.1) in
-      found (last_found (is_passed m.typed n thread) R some)
+      found (last_found (is_passed m.typed n thread) R (list_any-from_Any (is_passed m.typed n thread) R (passed_any h.spawned)))
     where
+      passed_any : Any (λ e. (spawns thread e ≡ true) × (passes m.typed n e.act ≡ true)) R → Any (λ e. is_passed m.typed n thread e ≡ true) R
+      passed_any (k, x, less, at, is) = (k, x, less, at, and_from _ _ is.0 is.1)
+
       found : (s : LastAt (is_passed m.typed n thread) R) → IsListed (InArgument thread) (holders fuel m R n)
       found s =
           let parts = and_parts (spawns thread s.event) (passes m.typed n s.event.act) s.is in
@@ -162,7 +163,7 @@ module _ (fuel : ℕ) (m : Assignment) (R : List SourceEvent) (n : ℕ) (same : 
           let here : IsListed (InArgument thread) (argument_at m.typed R n s.event s.after s.event.answer) = subst (λ z. IsListed (InArgument thread) (argument_at m.typed R n s.event s.after z)) (sym answer) there in
           by_its_act s.before s.event s.after (InArgument thread) s.stands (subst (λ z. IsListed (InArgument thread) (by_act m.typed R n s.event s.after z)) (sym a.is) here)
 
-  pub thread_listed : SourceRun m R → OneMain m.typed → (thread which : ℕ) → ThreadHoldsWith fuel m R thread which n → IsListed (InThread thread which) (holders fuel m R n)
+  pub thread_listed : SourceRun m R → FindsEntries m.typed → (thread which : ℕ) → ThreadHoldsWith fuel m R thread which n → IsListed (InThread thread which) (holders fuel m R n)
   thread_listed run one thread which h = found (last_found (is_of thread) R (follows_begun m R h.begun.fuel thread h.begun.own))
     where
       found : (s : LastAt (is_of thread) R) → IsListed (InThread thread which) (holders fuel m R n)

@@ -4,7 +4,6 @@ pub mod Complete
 pub mod Distinct
 pub mod Entries
 pub mod Latest
-pub mod Mains
 pub mod Making
 pub mod Places
 pub mod Sound

@@ -1,5 +1,5 @@
 -- What is listed holds a reference.
-use Rattle.sharc_meaning_tests.proofs.{Imports.{◌≡◌, ◌⊎◌, inl, inr, ℕ, ◌<◌, Bool, true, false, not, ◌&&◌, ◌||◌, List, [], ◌∷◌, ◌++◌, Some, refl, ap, sym, subst, ◌∙◌, not-true, not_from_false, both_ways, and_parts, and_from, or_cases, or_left, or_right, eqb-true, eq-eqb, ℤ, pos, negsuc, ◌==◌, Any, if◌then◌else◌, list_any, Act, CellAt, Object, Global, Made, SourceEvent, Assignment, is_of, events_of, is_cell, same_object, same_cell, locks, unlocks, locked_by, latest, asks, refers, Counts, is_taken_to_free, Begun, asked_with, held_count, passes, is_pointer_of, CellRefers, ArgumentRefers, ReferencesWith, Follows, SourceRun, changes, value_after, meets, is_live, is_locked, spawns, is_spawn, is_natural, SameLaws, Holder, InCell, InArgument, InMutex, InThread, view_holder, IsListed, counts, cell_refers, cell_at, mutex_at, is_passed, argument_at, in_thread_all, thread_at, by_act, holders_at, holders, entry, own_answers, count_by_entry, thread_count}, Entries.{OneMain, any_placed, begun_events, events_begun, own_told, follows_entry}, Latest.{latest_is, stands_any}, Places.{only, in_either, in_threads, somewhere}}
+use Rattle.sharc_meaning_tests.proofs.{Imports.{Any-from_list_any, ◌≡◌, ◌⊎◌, inl, inr, ℕ, ◌<◌, Bool, true, false, not, ◌&&◌, ◌||◌, List, [], ◌∷◌, ◌++◌, Some, refl, ap, sym, subst, ◌∙◌, not-true, not_from_false, both_ways, and_parts, and_from, or_cases, or_left, or_right, eqb-true, eq-eqb, ℤ, pos, negsuc, ◌==◌, Any, if◌then◌else◌, list_any, Act, CellAt, Object, Global, Made, SourceEvent, Assignment, is_of, events_of, is_cell, same_object, same_cell, locks, unlocks, locked_by, latest, asks, refers, Counts, is_taken_to_free, Begun, asked_with, held_count, passes, is_pointer_of, CellRefers, ArgumentRefers, ReferencesWith, Follows, SourceRun, changes, value_after, meets, is_live, is_locked, spawns, is_spawn, is_natural, SameLaws, FindsEntries, Holder, InCell, InArgument, InMutex, InThread, view_holder, IsListed, counts, cell_refers, cell_at, mutex_at, is_passed, argument_at, in_thread_all, thread_at, by_act, holders_at, holders, entry, own_answers, count_by_entry, thread_count}, Entries.{begun_events, events_begun, own_told, follows_entry}, Latest.{latest_is, stands_any}, Places.{only, in_either, in_threads, somewhere}}
 
 pub counts_true : (R : List SourceEvent) (n : ℕ) (o : Object) → counts R n o ≡ true → Counts R n o
 counts_true R n (Global g) h = tt
@@ -47,6 +47,9 @@ module _ (fuel : ℕ) (m : Assignment) (R : List SourceEvent) (n : ℕ) where
         let last : latest p R ≡ Some e = ap (latest p) stands ∙ latest_is p before e after (or_left (locks c e) (unlocks c e) own) (not-true _ parts.1) in
         subst Means found.1 ((same.objects c.object (Made n)).0 parts.0, ap (meets (locks c)) last ∙ own)
 
+  passed_parts : (thread : ℕ) → Any (λ e. is_passed m.typed n thread e ≡ true) R → Any (λ e. (spawns thread e ≡ true) × (passes m.typed n e.act ≡ true)) R
+  passed_parts thread (k, x, less, at, is) = (k, x, less, at, and_parts _ _ is)
+
   argument_sound : (before : List SourceEvent) (e : SourceEvent) (after : List SourceEvent) (f : ℕ) (v : ℤ) → R ≡ before ++ e ∷ after → e.act ≡ Act.Spawn f v → (a : ℤ) → e.answer ≡ a → (h : Holder) → IsListed h (argument_at m.typed R n e after a) → Means h
   argument_sound before e after f v stands is (negsuc k) answer h i = absurd i
   argument_sound before e after f v stands is (pos thread) answer h i =
@@ -56,11 +59,11 @@ module _ (fuel : ℕ) (m : Assignment) (R : List SourceEvent) (n : ℕ) where
       let spawned : spawns thread e ≡ true = ap (λ z. is_spawn z && is_natural thread e.answer) is ∙ ap (is_natural thread) answer ∙ eq-eqb thread thread refl in
       let means : ArgumentRefers m R n thread = record {
         unread = begun_events R thread (not-true _ first.1);
-        spawned = subst (Any (λ e. (spawns thread e ≡ true) × (passes m.typed n e.act ≡ true))) (sym stands) (any_placed (λ e. (spawns thread e ≡ true) × (passes m.typed n e.act ≡ true)) before e after (spawned, first.0));
+        spawned = passed_parts thread (Any-from_list_any (is_passed m.typed n thread) R (ap (list_any (is_passed m.typed n thread)) stands ∙ stands_any (is_passed m.typed n thread) before e after (and_from _ _ spawned first.0)));
       } in
       subst Means found.1 means
 
-  module _ (run : SourceRun m R) (one : OneMain m.typed) where
+  module _ (run : SourceRun m R) (one : FindsEntries m.typed) where
     pub count_is : (other thread : ℕ) (a : Follows m R other thread) → thread_count fuel m R thread n ≡ held_count (asked_with (record { fuel = other; own = a }) fuel) n
     count_is other thread a =
         ap (count_by_entry fuel m R thread n) (follows_entry m R other thread a one run.legal)

@@ -6,18 +6,20 @@ ghost use Rattle.sharc_meaning.specs.{Events.is_of, References.{takes_to_free, i
 ghost use Rattle.sharc_meaning.specs.{References.{has_pointer, passes}, Runs.SourceRun};
 ghost use Rattle.sharc_meaning_tests.specs.{Answered.AreReferences, Listed.{at_places, counts, cell_refers, cell_at}};
 ghost use Rattle.sharc_meaning_tests.specs.Listed.{mutex_at, is_passed, argument_at, in_thread_all, thread_at, by_act};
-ghost use Rattle.sharc_meaning_tests.specs.{Listed.{holders_at, holders}, Starting.main_of};
+ghost use Rattle.sharc_meaning_tests.specs.Listed.{holders_at, holders};
+ghost use Rattle.sharc_judge.specs.Starting.{main_of};
 ghost use Rattle.sharc_tree.specs.declared.event.Object.TheVariants.{Made};
 
 use crate::holder::Holder;
 use crate::pointers::is_pointer_of;
-use crate::starts::{main_of, refers, thread_count};
+use crate::starts::{refers, thread_count};
 use sharc_ctype::typed::Typed;
-use sharc_ctype_laws::laws::{meets_globals, one_function_of_name};
+use sharc_ctype_laws::laws::meets_globals;
 use sharc_judge::access::{makes, spawns};
 use sharc_judge::history::{Test, any};
 use sharc_judge::laws::same_laws;
 use sharc_judge::same::same_object;
+use sharc_judge::starts::main_of;
 use sharc_judge::store::{is_live, value_after};
 use sharc_mode::moded::Moded;
 use sharc_names::kind::{declared_kind, is_pointer};
@@ -282,7 +284,6 @@ pub fn references(
         → AreReferences fuel program.now events.now number all.items) }
 {
     meets_globals();
-    one_function_of_name();
     same_laws();
     let main = main_of(program.typed())?;
     let threads = Threads {

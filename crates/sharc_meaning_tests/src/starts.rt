@@ -4,7 +4,8 @@ ghost use Rattle.std.specs.Prelude.{◌≡◌, IfOk, count_by, drop, find};
 ghost use Rattle.sharc_ctype.specs.Resolved.{Resolution};
 ghost use Rattle.sharc_meaning.specs.{Events.events_of, Meaning.asks, References.{refers, held_count}, Runs.answers_of};
 ghost use Rattle.sharc_meaning.specs.Store.{spawns};
-ghost use Rattle.sharc_meaning_tests.specs.Starting.{main_of, entry, thread_count};
+ghost use Rattle.sharc_judge.specs.Starting.{main_of, entry};
+ghost use Rattle.sharc_meaning_tests.specs.Starting.{thread_count};
 
 use sharc_ask::thread::held;
 use sharc_ctype::typed::Typed;
@@ -18,24 +19,6 @@ pub(crate) fn refers(number: u32, value: i128) -> bool
     ensures { result ≡ refers number value }
 {
     value != 0 && value.unsigned_abs() % 4294967296 == number as u128
-}
-
-/// The number of `main`. Out of memory is answered, too, where there are more functions than a number of 32 bits
-/// counts.
-pub(crate) fn main_of(typed: &Typed) -> Result<Option<u32>, AllocError>
-    ensures { IfOk result (λ f. f ≡ main_of typed.now) }
-{
-    for n in 0..u32::MAX {
-        match typed.function_at(n) {
-            None => return Ok(None),
-            Some(f) => {
-                if f.name.text.as_slice() == b"main".as_slice() {
-                    return Ok(Some(n));
-                }
-            }
-        }
-    }
-    Err(AllocError)
 }
 
 /// The event by which the thread was spawned.

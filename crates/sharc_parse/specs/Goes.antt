@@ -1,5 +1,5 @@
 -- What the functions of the parser promise: they go the machine's way.
-use Rattle.std.specs.Prelude.{◌≡◌, ℕ, ◌+◌, ◌≤◌, ◌<◌, Bool, true, false, List, [], ◌∷◌, length, drop, Option, Some, None}
+use Rattle.std.specs.Prelude.{◌≡◌, ℕ, ◌+◌, ◌≤◌, ◌<◌, ◌^◌, Bool, true, false, List, [], ◌∷◌, length, drop, Option, Some, None}
 use Rattle.std.specs.Prelude.{Result, Ok, Err, IfOk}
 use Rattle.sharc_tree.specs.{View.view_expr, declared.token.Token.Token, declared.token.Span.Span}
 use Rattle.sharc_tree.specs.declared.token.Punctuator.{Punctuator}
@@ -33,6 +33,16 @@ use Rattle.sharc_parse.specs.Grammar as grammar
 -- the words from token number n on
 abbrev pub from : List Token → ℕ → List Word
 from tokens n = words_of (drop n tokens)
+
+-- a place in no more tokens than a program may have
+pub record IsPlace (tokens : List Token) (at : ℕ) : Type 0 where
+  pub few : length tokens ≤ 2 ^ 20
+  pub there : at ≤ length tokens
+
+-- from one place the other is no step back, and still among the tokens
+pub record GoesOn (tokens : List Token) (at next : ℕ) : Type 0 where
+  pub onward : at ≤ next
+  pub within : next ≤ length tokens
 
 -- the next word, if there is one, is another
 abbrev pub NotAt : Word → List Word → Type 0

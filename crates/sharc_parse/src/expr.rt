@@ -1,19 +1,19 @@
 // Reading an expression.
 
-ghost use Rattle.std.specs.Prelude.{◌≡◌, ℕ, max, List, [], false, ◌<◌, ◌≤◌, ◌+◌, ◌-◌, ◌^◌, IfOk, length};
+ghost use Rattle.std.specs.Prelude.{◌≡◌, ℕ, max, List, [], false, ◌<◌, ◌≤◌, ◌+◌, ◌-◌, IfOk};
 ghost use Rattle.sharc_tree.specs.Tree as tree;
 ghost use Rattle.sharc_tree.specs.{Tree.{binary, field, unary}, View.{view_expr, view_arguments}};
 ghost use Rattle.sharc_parse.specs.{Grammar.{call, front_level}, Machine.{Cont, Have, Called, At, grip}};
 ghost use Rattle.sharc_parse.specs.{Limits.{reads_within, depth, crowded, highest}, Places.{sizes, site_in, span_at}};
-ghost use Rattle.sharc_parse.specs.{Places.arguments_at, View.{phrase_of, phrases_of}};
+ghost use Rattle.sharc_parse.specs.{Goes.{GoesOn, IsPlace}, Places.arguments_at, View.{phrase_of, phrases_of}};
 ghost use Rattle.sharc_parse.specs.{declared.token.FrontWord.TheVariants.{Spawn, Place}, Goes.{from, Goes, ReadsFrom}};
 ghost use Rattle.sharc_parse.specs.Goes.{ReadsBehindName, IsHigh, IsPlaced, ReadsFront, IsFrontPlaced, NoUnary, NoCall};
 ghost use Rattle.sharc_parse.specs.Goes.{Builds, front_tree, bare_front};
 
 use crate::held::{box_beside, boxes, expect_behind};
 use crate::token::{
-    FrontWord, ParsedExpr, ReadingFault, access, constant, enter, expect, front_word, is_at, name,
-    operator, site, span, strength_of, take, unary_operator,
+    FrontWord, ParsedExpr, Reading, ReadingFault, access, constant, enter, expect, front_word,
+    is_at, name, operator, site, span, strength_of, take, unary_operator,
 };
 use crate::types::cast_type;
 use sharc_tree::held::both;
@@ -35,13 +35,11 @@ pub(crate) enum Front {
 }
 
 /// `( name ,` after `spawn`.
-fn spawn_front(alloc: Global, tokens: &[Token], at: &mut usize) -> Result<Front, ReadingFault>
-    requires few { length tokens.now ≤ 2 ^ 20 }
-    requires there { at.old ≤ length tokens.now }
+fn spawn_front(alloc: Global, tokens: &[Token], at: &mut usize) -> Reading<Front>
+    requires there { IsPlace tokens.now at.old }
     ensures reads { ReadsFront result Spawn (from tokens.now at.old) (from tokens.now at.new) }
     ensures placed { IsFrontPlaced result tokens.now at.old at.new }
-    ensures onward { at.old ≤ at.new }
-    ensures within { at.new ≤ length tokens.now }
+    ensures onward { GoesOn tokens.now at.old at.new }
 {
     expect(tokens, at, Punctuator::OpenParenthesis)?;
     let Some(function) = name(alloc, tokens, at)? else {
@@ -52,13 +50,11 @@ fn spawn_front(alloc: Global, tokens: &[Token], at: &mut usize) -> Result<Front,
 }
 
 /// `( &` after `lock` and `unlock`, and `(` after `free`.
-fn place_front(tokens: &[Token], at: &mut usize, call: PlaceCall) -> Result<Front, ReadingFault>
-    requires few { length tokens.now ≤ 2 ^ 20 }
-    requires there { at.old ≤ length tokens.now }
+fn place_front(tokens: &[Token], at: &mut usize, call: PlaceCall) -> Reading<Front>
+    requires there { IsPlace tokens.now at.old }
     ensures reads { ReadsFront result (Place call) (from tokens.now at.old) (from tokens.now at.new) }
     ensures placed { IsFrontPlaced result tokens.now at.old at.new }
-    ensures onward { at.old ≤ at.new }
-    ensures within { at.new ≤ length tokens.now }
+    ensures onward { GoesOn tokens.now at.old at.new }
 {
     match call {
         PlaceCall::Free => {
@@ -79,18 +75,11 @@ fn place_front(tokens: &[Token], at: &mut usize, call: PlaceCall) -> Result<Fron
 }
 
 /// What follows the first word of an expression that a `)` ends, up to the expression inside.
-fn rest_of_front(
-    alloc: Global,
-    tokens: &[Token],
-    at: &mut usize,
-    word: FrontWord,
-) -> Result<Front, ReadingFault>
-    requires few { length tokens.now ≤ 2 ^ 20 }
-    requires there { at.old ≤ length tokens.now }
+fn rest_of_front(alloc: Global, tokens: &[Token], at: &mut usize, word: FrontWord) -> Reading<Front>
+    requires there { IsPlace tokens.now at.old }
     ensures reads { ReadsFront result word (from tokens.now at.old) (from tokens.now at.new) }
     ensures placed { IsFrontPlaced result tokens.now at.old at.new }
-    ensures onward { at.old ≤ at.new }
-    ensures within { at.new ≤ length tokens.now }
+    ensures onward { GoesOn tokens.now at.old at.new }
 {
     match word {
         FrontWord::Parenthesis => Ok(Front::Parenthesis),
@@ -111,7 +100,7 @@ fn binary_of(
     site: Site,
     left: ParsedExpr,
     right: ParsedExpr,
-) -> Result<ParsedExpr, ReadingFault>
+) -> Reading<ParsedExpr>
     requires left { left.height < 64 }
     requires right { right.height < 64 }
     ensures { Builds result (binary span operator site (view_expr left.expr) (view_expr right.expr))
@@ -129,12 +118,7 @@ fn binary_of(
     Ok(ParsedExpr { expr, height })
 }
 
-fn index_of(
-    alloc: Global,
-    span: Span,
-    base: ParsedExpr,
-    index: ParsedExpr,
-) -> Result<ParsedExpr, ReadingFault>
+fn index_of(alloc: Global, span: Span, base: ParsedExpr, index: ParsedExpr) -> Reading<ParsedExpr>
     requires base { base.height < 64 }
     requires index { index.height < 64 }
     ensures { Builds result (tree.index span (view_expr base.expr) (view_expr index.expr))
@@ -152,7 +136,7 @@ fn field_of(
     base: ParsedExpr,
     access: FieldOperator,
     name: Identifier,
-) -> Result<ParsedExpr, ReadingFault>
+) -> Reading<ParsedExpr>
     requires { base.height < 64 }
     ensures { Builds result (field span (view_expr base.expr) access name) (base.height + 1) }
 {
@@ -172,7 +156,7 @@ fn unary_of(
     span: Span,
     operator: UnaryOperator,
     operand: ParsedExpr,
-) -> Result<ParsedExpr, ReadingFault>
+) -> Reading<ParsedExpr>
     requires { operand.height < 64 }
     ensures { Builds result (unary span operator (view_expr operand.expr)) (operand.height + 1) }
 {
@@ -183,12 +167,7 @@ fn unary_of(
     })
 }
 
-fn front_of(
-    alloc: Global,
-    span: Span,
-    front: Front,
-    inner: ParsedExpr,
-) -> Result<ParsedExpr, ReadingFault>
+fn front_of(alloc: Global, span: Span, front: Front, inner: ParsedExpr) -> Reading<ParsedExpr>
     requires { inner.height < 64 }
     ensures { Builds result (front_tree span front (view_expr inner.expr)) (inner.height + 1) }
 {
@@ -226,18 +205,16 @@ pub(crate) fn binary(
     at: &mut usize,
     least: u8,
     room: u8,
-) -> Result<ParsedExpr, ReadingFault>
+) -> Reading<ParsedExpr>
     requires low { 1 ≤ least }
     requires high { least ≤ 11 }
     requires room { room ≤ 64 }
-    requires few { length tokens.now ≤ 2 ^ 20 }
-    requires there { at.old ≤ length tokens.now }
+    requires there { IsPlace tokens.now at.old }
     ensures reads { ReadsFrom least room result (from tokens.now at.old) (from tokens.now at.new) }
     ensures height { IsHigh room result }
     ensures placed { IsPlaced result tokens.now at.old at.new }
     ensures grip { IfOk result (λ _. grip (from tokens.now at.new) < least) }
-    ensures onward { at.old ≤ at.new }
-    ensures within { at.new ≤ length tokens.now }
+    ensures onward { GoesOn tokens.now at.old at.new }
 {
     let first = *at;
     let mut left = unary(alloc, tokens, at, room)?;
@@ -257,16 +234,14 @@ pub(crate) fn unary(
     tokens: &[Token],
     at: &mut usize,
     room: u8,
-) -> Result<ParsedExpr, ReadingFault>
+) -> Reading<ParsedExpr>
     requires room { room ≤ 64 }
-    requires few { length tokens.now ≤ 2 ^ 20 }
-    requires there { at.old ≤ length tokens.now }
+    requires there { IsPlace tokens.now at.old }
     ensures reads { ReadsFrom 11 room result (from tokens.now at.old) (from tokens.now at.new) }
     ensures height { IsHigh room result }
     ensures placed { IsPlaced result tokens.now at.old at.new }
     ensures grip { IfOk result (λ _. grip (from tokens.now at.new) ≤ 11) }
-    ensures onward { at.old ≤ at.new }
-    ensures within { at.new ≤ length tokens.now }
+    ensures onward { GoesOn tokens.now at.old at.new }
 {
     let first = *at;
     match unary_operator(tokens, at, room)? {
@@ -281,22 +256,15 @@ pub(crate) fn unary(
 /// An operand with the indexes and fields after it.
 #[cycle(expr)]
 #[tactic(auto, using(crate::proofs::Steps::index_deep, crate::proofs::Steps::access_deep, crate::proofs::Steps::no_field, crate::proofs::Steps::no_call, crate::proofs::Steps::ends_postfix))]
-fn postfix(
-    alloc: Global,
-    tokens: &[Token],
-    at: &mut usize,
-    room: u8,
-) -> Result<ParsedExpr, ReadingFault>
+fn postfix(alloc: Global, tokens: &[Token], at: &mut usize, room: u8) -> Reading<ParsedExpr>
     requires room { room ≤ 64 }
-    requires few { length tokens.now ≤ 2 ^ 20 }
-    requires there { at.old ≤ length tokens.now }
+    requires there { IsPlace tokens.now at.old }
     requires prefix { NoUnary (from tokens.now at.old) }
     ensures reads { ReadsFrom 12 room result (from tokens.now at.old) (from tokens.now at.new) }
     ensures height { IsHigh room result }
     ensures placed { IsPlaced result tokens.now at.old at.new }
     ensures grip { IfOk result (λ _. grip (from tokens.now at.new) ≤ 11) }
-    ensures onward { at.old ≤ at.new }
-    ensures within { at.new ≤ length tokens.now }
+    ensures onward { GoesOn tokens.now at.old at.new }
 {
     let first = *at;
     let mut base = primary(alloc, tokens, at, room)?;
@@ -321,22 +289,15 @@ fn postfix(
 /// The innermost part of an operand.
 #[cycle(expr)]
 #[tactic(auto, using(crate::proofs::Steps::front_goes, crate::proofs::Steps::front_deep, crate::proofs::Steps::no_operand, crate::proofs::Steps::front_missing))]
-fn primary(
-    alloc: Global,
-    tokens: &[Token],
-    at: &mut usize,
-    room: u8,
-) -> Result<ParsedExpr, ReadingFault>
+fn primary(alloc: Global, tokens: &[Token], at: &mut usize, room: u8) -> Reading<ParsedExpr>
     requires room { room ≤ 64 }
-    requires few { length tokens.now ≤ 2 ^ 20 }
-    requires there { at.old ≤ length tokens.now }
+    requires there { IsPlace tokens.now at.old }
     requires prefix { NoUnary (from tokens.now at.old) }
     ensures reads { ReadsFrom 12 room result (from tokens.now at.old) (from tokens.now at.new) }
     ensures height { IsHigh room result }
     ensures placed { IsPlaced result tokens.now at.old at.new }
     ensures call { IfOk result (λ r. NoCall (phrase_of r.expr) (from tokens.now at.new)) }
-    ensures onward { at.old ≤ at.new }
-    ensures within { at.new ≤ length tokens.now }
+    ensures onward { GoesOn tokens.now at.old at.new }
 {
     let first = *at;
     if let Some(word) = front_word(tokens, at, room)? {
@@ -372,18 +333,16 @@ fn name_or_call(
     first: usize,
     name: Identifier,
     room: u8,
-) -> Result<ParsedExpr, ReadingFault>
+) -> Reading<ParsedExpr>
     requires room { room ≤ 64 }
-    requires few { length tokens.now ≤ 2 ^ 20 }
     requires behind { at.old ≡ first + 1 }
-    requires there { at.old ≤ length tokens.now }
+    requires there { IsPlace tokens.now at.old }
     requires named { name.site ≡ site_in tokens.now first }
     ensures reads { ReadsBehindName name.text room result (from tokens.now at.old) (from tokens.now at.new) }
     ensures height { IsHigh room result }
     ensures placed { IsPlaced result tokens.now first at.new }
     ensures call { IfOk result (λ r. NoCall (phrase_of r.expr) (from tokens.now at.new)) }
-    ensures onward { at.old ≤ at.new }
-    ensures within { at.new ≤ length tokens.now }
+    ensures onward { GoesOn tokens.now at.old at.new }
 {
     let (name, opens) = both(name, enter(tokens, at, Punctuator::OpenParenthesis, room))?;
     if opens {
@@ -402,15 +361,9 @@ fn name_or_call(
 
 /// The arguments after `name (`, and the `)`; and the height of the highest.
 #[cycle(expr)]
-fn arguments(
-    alloc: Global,
-    tokens: &[Token],
-    at: &mut usize,
-    room: u8,
-) -> Result<(Vec<Expr>, u8), ReadingFault>
+fn arguments(alloc: Global, tokens: &[Token], at: &mut usize, room: u8) -> Reading<(Vec<Expr>, u8)>
     requires room { room < 64 }
-    requires few { length tokens.now ≤ 2 ^ 20 }
-    requires there { at.old ≤ length tokens.now }
+    requires there { IsPlace tokens.now at.old }
     ensures reads { (f : List ℕ) (k : Cont) → depth k + room + 1 ≡ 64 → crowded k ≡ false
         → Goes (λ r. phrases_of r.0.items) result (reads_within (from tokens.now at.old) (At [] (Called f k)))
         (λ v. reads_within (from tokens.now at.new) (At [] (Have (call f v) k))) (from tokens.now at.new) }
@@ -418,8 +371,7 @@ fn arguments(
     ensures placed { IfOk result
         (λ r. (view_arguments r.0.items ≡ arguments_at (site_in tokens.now) at.old (phrases_of r.0.items))
         × (at.new ≡ at.old + sizes (phrases_of r.0.items) + 1)) }
-    ensures onward { at.old ≤ at.new }
-    ensures within { at.new ≤ length tokens.now }
+    ensures onward { GoesOn tokens.now at.old at.new }
 {
     let mut arguments = Vec::new(alloc);
     let mut highest = 0;

@@ -1,10 +1,9 @@
 // Reading what follows the name of a global.
 
-ghost use Rattle.std.specs.Prelude.{◌≤◌, ◌^◌, length};
 ghost use Rattle.sharc_parse.specs.{Goes.from, Forms.{TakesNumber, TakesSigned, ReadsArray, ReadsConstant}};
-ghost use Rattle.sharc_parse.specs.Forms.{IsBehindPlaced, ReadsForm, IsFormPlaced};
+ghost use Rattle.sharc_parse.specs.{Goes.{GoesOn, IsPlace}, Forms.{IsBehindPlaced, ReadsForm, IsFormPlaced}};
 
-use crate::token::{ReadingFault, constant, expect, site, span, take};
+use crate::token::{Reading, ReadingFault, constant, expect, site, span, take};
 use sharc_tree::token::{Number, Punctuator, Token, TokenKind};
 use sharc_tree::tree::{Constant, GlobalForm};
 
@@ -44,13 +43,11 @@ fn signed_constant(tokens: &[Token], at: &mut usize) -> Option<Constant>
 
 /// `number ]` after a `[`.
 #[tactic(auto, using(crate::proofs::FormSteps::array_number, crate::proofs::FormSteps::no_number, crate::proofs::FormSteps::array_ends, crate::proofs::Steps::fixed_stuck))]
-fn array_form(tokens: &[Token], at: &mut usize) -> Result<GlobalForm, ReadingFault>
-    requires few { length tokens.now ≤ 2 ^ 20 }
-    requires there { at.old ≤ length tokens.now }
+fn array_form(tokens: &[Token], at: &mut usize) -> Reading<GlobalForm>
+    requires there { IsPlace tokens.now at.old }
     ensures reads { ReadsArray result (from tokens.now at.old) (from tokens.now at.new) }
     ensures placed { IsBehindPlaced result tokens.now at.old at.new }
-    ensures onward { at.old ≤ at.new }
-    ensures within { at.new ≤ length tokens.now }
+    ensures onward { GoesOn tokens.now at.old at.new }
 {
     let place = site(tokens, *at);
     let Some(number) = number(tokens, at) else {
@@ -62,13 +59,11 @@ fn array_form(tokens: &[Token], at: &mut usize) -> Result<GlobalForm, ReadingFau
 
 /// A constant after a `=`.
 #[tactic(auto, using(crate::proofs::FormSteps::minus_goes, crate::proofs::FormSteps::signed_goes, crate::proofs::FormSteps::no_signed, crate::proofs::FormSteps::constant_goes, crate::proofs::FormSteps::no_constant))]
-fn constant_form(tokens: &[Token], at: &mut usize) -> Result<GlobalForm, ReadingFault>
-    requires few { length tokens.now ≤ 2 ^ 20 }
-    requires there { at.old ≤ length tokens.now }
+fn constant_form(tokens: &[Token], at: &mut usize) -> Reading<GlobalForm>
+    requires there { IsPlace tokens.now at.old }
     ensures reads { ReadsConstant result (from tokens.now at.old) (from tokens.now at.new) }
     ensures placed { IsBehindPlaced result tokens.now at.old at.new }
-    ensures onward { at.old ≤ at.new }
-    ensures within { at.new ≤ length tokens.now }
+    ensures onward { GoesOn tokens.now at.old at.new }
 {
     let first = *at;
     if take(tokens, at, Punctuator::Minus) {
@@ -85,13 +80,11 @@ fn constant_form(tokens: &[Token], at: &mut usize) -> Result<GlobalForm, Reading
 
 /// What follows the name of a global, and its `;`.
 #[tactic(auto, using(crate::proofs::FormSteps::single_goes, crate::proofs::FormSteps::array_goes, crate::proofs::FormSteps::initial_goes, crate::proofs::FormSteps::form_ends, crate::proofs::FormSteps::no_form, crate::proofs::Steps::fixed_stuck))]
-pub(crate) fn form(tokens: &[Token], at: &mut usize) -> Result<GlobalForm, ReadingFault>
-    requires few { length tokens.now ≤ 2 ^ 20 }
-    requires there { at.old ≤ length tokens.now }
+pub(crate) fn form(tokens: &[Token], at: &mut usize) -> Reading<GlobalForm>
+    requires there { IsPlace tokens.now at.old }
     ensures reads { ReadsForm result (from tokens.now at.old) (from tokens.now at.new) }
     ensures placed { IsFormPlaced result tokens.now at.old at.new }
-    ensures onward { at.old ≤ at.new }
-    ensures within { at.new ≤ length tokens.now }
+    ensures onward { GoesOn tokens.now at.old at.new }
 {
     if take(tokens, at, Punctuator::Semicolon) {
         return Ok(GlobalForm::Plain);

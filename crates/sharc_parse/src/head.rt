@@ -1,14 +1,13 @@
 // Reading the head of a `for`, and what a `return` gives.
 
-ghost use Rattle.std.specs.Prelude.{◌≤◌, ◌^◌, length};
-ghost use Rattle.sharc_parse.specs.Goes.{from};
+ghost use Rattle.sharc_parse.specs.Goes.{GoesOn, IsPlace, from};
 ghost use Rattle.sharc_parse.specs.Heads.{ReadsTail, IsTailPlaced, ReadsStep, IsStepPlaced, ReadsHead, IsHeadPlaced};
 
 use crate::expr::binary;
 use crate::held::expect_behind;
 use crate::line::{MayDeclare, line};
 use crate::simple::simple;
-use crate::token::{ReadingFault, expect, take};
+use crate::token::{Reading, expect, take};
 use sharc_tree::held::both;
 use sharc_tree::token::{Punctuator, Token};
 use sharc_tree::tree::{Expr, ForHead, Simple};
@@ -16,17 +15,11 @@ use std::alloc::Global;
 
 /// An expression that may be left out, and its `;`.
 #[tactic(auto, using(crate::proofs::HeadSteps::tail_empty, crate::proofs::HeadSteps::tail_begins, crate::proofs::HeadSteps::tail_ends, crate::proofs::HeadSteps::tail_stuck, crate::proofs::HeadSteps::tail_fits))]
-pub(crate) fn tail(
-    alloc: Global,
-    tokens: &[Token],
-    at: &mut usize,
-) -> Result<Option<Expr>, ReadingFault>
-    requires few { length tokens.now ≤ 2 ^ 20 }
-    requires there { at.old ≤ length tokens.now }
+pub(crate) fn tail(alloc: Global, tokens: &[Token], at: &mut usize) -> Reading<Option<Expr>>
+    requires there { IsPlace tokens.now at.old }
     ensures reads { ReadsTail result (from tokens.now at.old) (from tokens.now at.new) }
     ensures placed { IsTailPlaced result tokens.now at.old at.new }
-    ensures onward { at.old ≤ at.new }
-    ensures within { at.new ≤ length tokens.now }
+    ensures onward { GoesOn tokens.now at.old at.new }
 {
     if take(tokens, at, Punctuator::Semicolon) {
         return Ok(None);
@@ -38,13 +31,11 @@ pub(crate) fn tail(
 
 /// An assignment or a call that may be left out, and the `)` of a `for`.
 #[tactic(auto, using(crate::proofs::HeadSteps::step_empty, crate::proofs::HeadSteps::step_begins, crate::proofs::HeadSteps::step_ends, crate::proofs::HeadSteps::step_stuck))]
-fn step(alloc: Global, tokens: &[Token], at: &mut usize) -> Result<Option<Simple>, ReadingFault>
-    requires few { length tokens.now ≤ 2 ^ 20 }
-    requires there { at.old ≤ length tokens.now }
+fn step(alloc: Global, tokens: &[Token], at: &mut usize) -> Reading<Option<Simple>>
+    requires there { IsPlace tokens.now at.old }
     ensures reads { ReadsStep result (from tokens.now at.old) (from tokens.now at.new) }
     ensures placed { IsStepPlaced result tokens.now at.old at.new }
-    ensures onward { at.old ≤ at.new }
-    ensures within { at.new ≤ length tokens.now }
+    ensures onward { GoesOn tokens.now at.old at.new }
 {
     if take(tokens, at, Punctuator::CloseParenthesis) {
         return Ok(None);
@@ -56,13 +47,11 @@ fn step(alloc: Global, tokens: &[Token], at: &mut usize) -> Result<Option<Simple
 
 /// What follows the word `for`, up to the `)`.
 #[tactic(auto, using(crate::proofs::HeadSteps::for_opens, crate::proofs::HeadSteps::for_begins, crate::proofs::Steps::fixed_stuck))]
-pub(crate) fn head(alloc: Global, tokens: &[Token], at: &mut usize) -> Result<ForHead, ReadingFault>
-    requires few { length tokens.now ≤ 2 ^ 20 }
-    requires there { at.old ≤ length tokens.now }
+pub(crate) fn head(alloc: Global, tokens: &[Token], at: &mut usize) -> Reading<ForHead>
+    requires there { IsPlace tokens.now at.old }
     ensures reads { ReadsHead result (from tokens.now at.old) (from tokens.now at.new) }
     ensures placed { IsHeadPlaced result tokens.now at.old at.new }
-    ensures onward { at.old ≤ at.new }
-    ensures within { at.new ≤ length tokens.now }
+    ensures onward { GoesOn tokens.now at.old at.new }
 {
     expect(tokens, at, Punctuator::OpenParenthesis)?;
     let first = line(alloc, tokens, at, MayDeclare::Yes, 64)?;

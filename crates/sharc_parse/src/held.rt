@@ -6,7 +6,7 @@
 ghost use Rattle.std.specs.Prelude.{◌≡◌, Ok, IfOk, IfErr};
 ghost use Rattle.sharc_parse.specs.{Grammar.mark, declared.token.ReadingFault.TheVariants.Memory, Goes.Expects};
 
-use crate::token::{ReadingFault, expect};
+use crate::token::{Reading, ReadingFault, expect};
 use sharc_tree::token::{Punctuator, Token};
 use std::alloc::Global;
 
@@ -16,7 +16,7 @@ pub(crate) fn expect_behind<T: Drop>(
     at: &mut usize,
     value: T,
     punctuator: Punctuator,
-) -> Result<T, ReadingFault>
+) -> Reading<T>
     ensures past { Expects result (mark punctuator) tokens.now at.old at.new }
     ensures held { IfOk result (λ v. v ≡ value) }
 {
@@ -29,7 +29,7 @@ pub(crate) fn boxes<A: Drop, B: Drop>(
     alloc: Global,
     first: A,
     second: B,
-) -> Result<(Box<A>, Box<B>), ReadingFault>
+) -> Reading<(Box<A>, Box<B>)>
     ensures boxed { IfOk result (λ r. (r.0.value ≡ first) × (r.1.value ≡ second)) }
     ensures memory { IfErr result (λ e. e ≡ Memory) }
 {
@@ -43,7 +43,7 @@ pub(crate) fn box_beside<A: Drop, B: Drop>(
     alloc: Global,
     first: A,
     other: B,
-) -> Result<(Box<A>, B), ReadingFault>
+) -> Reading<(Box<A>, B)>
     ensures boxed { IfOk result (λ r. (r.0.value ≡ first) × (r.1 ≡ other)) }
     ensures memory { IfErr result (λ e. e ≡ Memory) }
 {

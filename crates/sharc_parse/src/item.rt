@@ -1,9 +1,9 @@
 // Reading the items of a program.
 
-ghost use Rattle.std.specs.Prelude.{◌≡◌, ◌+◌, ◌<◌, ◌≤◌, ◌^◌, length, IfOk};
+ghost use Rattle.std.specs.Prelude.{◌<◌, ◌≤◌, IfOk};
 ghost use Rattle.sharc_parse.specs.{Places.site_in, Goes.from, View.bare_type, Items.{OpensStruct, ReadsStruct}};
 ghost use Rattle.sharc_parse.specs.Items.{IsStructPlaced, ReadsFunction, IsFunctionPlaced, ReadsNamed, IsNamedPlaced};
-ghost use Rattle.sharc_parse.specs.Items.{ReadsItem, IsItemPlaced};
+ghost use Rattle.sharc_parse.specs.{Goes.{GoesOn, IsPlace}, Items.{ReadsItem, IsItemPlaced}};
 
 use crate::field::fields;
 use crate::form::form;
@@ -11,7 +11,7 @@ use crate::held::expect_behind;
 use crate::local::name_there;
 use crate::parameter::parameters;
 use crate::statement::statements;
-use crate::token::{ReadingFault, span, take};
+use crate::token::{Reading, span, take};
 use crate::types::{ModePermission, is_bare, written_type};
 use sharc_tree::ctype::Base;
 use sharc_tree::held::both;
@@ -28,7 +28,7 @@ fn opens_struct(
     tokens: &[Token],
     at: &mut usize,
     written: &WrittenType,
-) -> Result<Option<Identifier>, ReadingFault>
+) -> Reading<Option<Identifier>>
     ensures { OpensStruct result written.now tokens.now at.old at.new }
 {
     let Base::Struct(name) = &written.ctype.base else {
@@ -50,14 +50,12 @@ fn rest_of_struct(
     tokens: &[Token],
     at: &mut usize,
     name: Identifier,
-) -> Result<Item, ReadingFault>
-    requires few { length tokens.now ≤ 2 ^ 20 }
+) -> Reading<Item>
     requires behind { 3 ≤ at.old }
-    requires there { at.old ≤ length tokens.now }
+    requires there { IsPlace tokens.now at.old }
     ensures reads { ReadsStruct name.text result (from tokens.now at.old) (from tokens.now at.new) }
     ensures placed { IsStructPlaced name result tokens.now at.old at.new }
-    ensures onward { at.old ≤ at.new }
-    ensures within { at.new ≤ length tokens.now }
+    ensures onward { GoesOn tokens.now at.old at.new }
 {
     let first = *at - 3;
     let (name, fields) = both(name, fields(alloc, tokens, at))?;
@@ -77,14 +75,12 @@ fn rest_of_function(
     first: usize,
     given: WrittenType,
     name: Identifier,
-) -> Result<Item, ReadingFault>
-    requires few { length tokens.now ≤ 2 ^ 20 }
+) -> Reading<Item>
     requires begun { first < at.old }
-    requires there { at.old ≤ length tokens.now }
+    requires there { IsPlace tokens.now at.old }
     ensures reads { ReadsFunction (bare_type given) name.text result (from tokens.now at.old) (from tokens.now at.new) }
     ensures placed { IsFunctionPlaced given name first result tokens.now at.old at.new }
-    ensures onward { at.old ≤ at.new }
-    ensures within { at.new ≤ length tokens.now }
+    ensures onward { GoesOn tokens.now at.old at.new }
 {
     let (named, parameters) = both((given, name), parameters(alloc, tokens, at))?;
     let opens = *at;
@@ -107,14 +103,12 @@ fn rest_of_named(
     at: &mut usize,
     first: usize,
     written: WrittenType,
-) -> Result<Item, ReadingFault>
-    requires few { length tokens.now ≤ 2 ^ 20 }
+) -> Reading<Item>
     requires begun { first < at.old }
-    requires there { at.old ≤ length tokens.now }
+    requires there { IsPlace tokens.now at.old }
     ensures reads { ReadsNamed written result (from tokens.now at.old) (from tokens.now at.new) }
     ensures placed { IsNamedPlaced written first result tokens.now at.old at.new }
-    ensures onward { at.old ≤ at.new }
-    ensures within { at.new ≤ length tokens.now }
+    ensures onward { GoesOn tokens.now at.old at.new }
 {
     let (written, name) = both(written, name_there(alloc, tokens, at))?;
     if take(tokens, at, Punctuator::OpenParenthesis) {
@@ -134,14 +128,12 @@ fn rest_of_named(
 }
 
 /// A struct, a global or a function.
-pub(crate) fn item(alloc: Global, tokens: &[Token], at: &mut usize) -> Result<Item, ReadingFault>
-    requires few { length tokens.now ≤ 2 ^ 20 }
-    requires there { at.old ≤ length tokens.now }
+pub(crate) fn item(alloc: Global, tokens: &[Token], at: &mut usize) -> Reading<Item>
+    requires there { IsPlace tokens.now at.old }
     ensures reads { ReadsItem result (from tokens.now at.old) (from tokens.now at.new) }
     ensures placed { IsItemPlaced result tokens.now at.old at.new }
     ensures further { IfOk result (λ _. at.old < at.new) }
-    ensures onward { at.old ≤ at.new }
-    ensures within { at.new ≤ length tokens.now }
+    ensures onward { GoesOn tokens.now at.old at.new }
 {
     let first = *at;
     let written = written_type(alloc, tokens, at, ModePermission::Allowed)?;

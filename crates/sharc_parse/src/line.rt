@@ -1,13 +1,13 @@
 // Reading what a `;` ends in a block, and in the head of a `for`.
 
-ghost use Rattle.std.specs.Prelude.{◌≡◌, ◌==◌, ◌≤◌, ◌^◌, length};
+ghost use Rattle.std.specs.Prelude.{◌≡◌, ◌==◌};
 ghost use Rattle.sharc_parse.specs.{Goes.from, Lines.{is_yes, MeetsType, MeetsLocal, starts_line, ReadsDeclaredLine}};
-ghost use Rattle.sharc_parse.specs.Lines.{ReadsSimpleLine, ReadsLine, IsLinePlaced};
+ghost use Rattle.sharc_parse.specs.{Goes.{GoesOn, IsPlace}, Lines.{ReadsSimpleLine, ReadsLine, IsLinePlaced}};
 
 use crate::held::expect_behind;
 use crate::local::local;
 use crate::simple::simple;
-use crate::token::{ReadingFault, take};
+use crate::token::{Reading, ReadingFault, take};
 use crate::types::{base_word, mode_word};
 use sharc_tree::token::{Keyword, Punctuator, Token, TokenKind};
 use sharc_tree::tree::ForFirst;
@@ -69,13 +69,11 @@ fn begins_line(tokens: &[Token], at: usize) -> bool
 
 /// A declaration and its `;`.
 #[tactic(auto, using(crate::proofs::LineSteps::local_ends, crate::proofs::LineSteps::local_stuck))]
-fn declared_line(alloc: Global, tokens: &[Token], at: &mut usize) -> Result<ForFirst, ReadingFault>
-    requires few { length tokens.now ≤ 2 ^ 20 }
-    requires there { at.old ≤ length tokens.now }
+fn declared_line(alloc: Global, tokens: &[Token], at: &mut usize) -> Reading<ForFirst>
+    requires there { IsPlace tokens.now at.old }
     ensures reads { ReadsDeclaredLine result (from tokens.now at.old) (from tokens.now at.new) }
     ensures placed { IsLinePlaced result tokens.now at.old at.new }
-    ensures onward { at.old ≤ at.new }
-    ensures within { at.new ≤ length tokens.now }
+    ensures onward { GoesOn tokens.now at.old at.new }
 {
     let local = local(alloc, tokens, at)?;
     let local = expect_behind(tokens, at, local, Punctuator::Semicolon)?;
@@ -84,13 +82,11 @@ fn declared_line(alloc: Global, tokens: &[Token], at: &mut usize) -> Result<ForF
 
 /// An assignment or a call, and its `;`.
 #[tactic(auto, using(crate::proofs::LineSteps::simple_ends, crate::proofs::LineSteps::simple_stuck))]
-fn simple_line(alloc: Global, tokens: &[Token], at: &mut usize) -> Result<ForFirst, ReadingFault>
-    requires few { length tokens.now ≤ 2 ^ 20 }
-    requires there { at.old ≤ length tokens.now }
+fn simple_line(alloc: Global, tokens: &[Token], at: &mut usize) -> Reading<ForFirst>
+    requires there { IsPlace tokens.now at.old }
     ensures reads { ReadsSimpleLine result (from tokens.now at.old) (from tokens.now at.new) }
     ensures placed { IsLinePlaced result tokens.now at.old at.new }
-    ensures onward { at.old ≤ at.new }
-    ensures within { at.new ≤ length tokens.now }
+    ensures onward { GoesOn tokens.now at.old at.new }
 {
     let simple = simple(alloc, tokens, at)?;
     let simple = expect_behind(tokens, at, simple, Punctuator::Semicolon)?;
@@ -105,13 +101,11 @@ pub(crate) fn line(
     at: &mut usize,
     declares: MayDeclare,
     room: u8,
-) -> Result<ForFirst, ReadingFault>
-    requires few { length tokens.now ≤ 2 ^ 20 }
-    requires there { at.old ≤ length tokens.now }
+) -> Reading<ForFirst>
+    requires there { IsPlace tokens.now at.old }
     ensures reads { ReadsLine (is_yes declares) (room == 0) result (from tokens.now at.old) (from tokens.now at.new) }
     ensures placed { IsLinePlaced result tokens.now at.old at.new }
-    ensures onward { at.old ≤ at.new }
-    ensures within { at.new ≤ length tokens.now }
+    ensures onward { GoesOn tokens.now at.old at.new }
 {
     if begins_local(tokens, *at, declares) {
         return declared_line(alloc, tokens, at);

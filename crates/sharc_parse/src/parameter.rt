@@ -1,11 +1,10 @@
 // Reading the parameters of a function.
 
-ghost use Rattle.std.specs.Prelude.{◌≤◌, ◌^◌, length};
 ghost use Rattle.sharc_parse.specs.{Goes.from, View.bare_type, Parameters.{ClosesVoid, ReadsFirst, IsFirstPlaced}};
-ghost use Rattle.sharc_parse.specs.Parameters.{ReadsParameters, AreParametersPlaced};
+ghost use Rattle.sharc_parse.specs.{Goes.{GoesOn, IsPlace}, Parameters.{ReadsParameters, AreParametersPlaced}};
 
 use crate::local::{declaration, name_there};
-use crate::token::{ReadingFault, expect, span, take};
+use crate::token::{Reading, expect, span, take};
 use crate::types::{ModePermission, is_bare, written_type};
 use sharc_tree::ctype::Base;
 use sharc_tree::held::both;
@@ -24,17 +23,11 @@ fn closes_void(tokens: &[Token], at: &mut usize, written: &WrittenType) -> bool
 }
 
 /// The first parameter, or the `void )` that stands for none.
-fn first_parameter(
-    alloc: Global,
-    tokens: &[Token],
-    at: &mut usize,
-) -> Result<Option<Declaration>, ReadingFault>
-    requires few { length tokens.now ≤ 2 ^ 20 }
-    requires there { at.old ≤ length tokens.now }
+fn first_parameter(alloc: Global, tokens: &[Token], at: &mut usize) -> Reading<Option<Declaration>>
+    requires there { IsPlace tokens.now at.old }
     ensures reads { ReadsFirst result (from tokens.now at.old) (from tokens.now at.new) }
     ensures placed { IsFirstPlaced result tokens.now at.old at.new }
-    ensures onward { at.old ≤ at.new }
-    ensures within { at.new ≤ length tokens.now }
+    ensures onward { GoesOn tokens.now at.old at.new }
 {
     let first = *at;
     let written = written_type(alloc, tokens, at, ModePermission::Allowed)?;
@@ -55,13 +48,11 @@ pub(crate) fn parameters(
     alloc: Global,
     tokens: &[Token],
     at: &mut usize,
-) -> Result<Vec<Declaration>, ReadingFault>
-    requires few { length tokens.now ≤ 2 ^ 20 }
-    requires there { at.old ≤ length tokens.now }
+) -> Reading<Vec<Declaration>>
+    requires there { IsPlace tokens.now at.old }
     ensures reads { ReadsParameters (λ v. v.items) result (from tokens.now at.old) (from tokens.now at.new) }
     ensures placed { AreParametersPlaced (λ v. v.items) result tokens.now at.old at.new }
-    ensures onward { at.old ≤ at.new }
-    ensures within { at.new ≤ length tokens.now }
+    ensures onward { GoesOn tokens.now at.old at.new }
 {
     let mut list = Vec::new(alloc);
     let Some(parameter) = first_parameter(alloc, tokens, at)? else {

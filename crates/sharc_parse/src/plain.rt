@@ -1,20 +1,20 @@
 // Reading the statements that hold no other.
 
-ghost use Rattle.std.specs.Prelude.{◌≡◌, ◌+◌, ◌≤◌, ◌^◌, length};
+ghost use Rattle.std.specs.Prelude.{◌≤◌};
 ghost use Rattle.sharc_parse.specs.{Goes.from, Lines.is_yes, Statements.{ReadsLineStatement, BuildsStatement}};
 ghost use Rattle.sharc_parse.specs.Statements.{line_statement, ReadsReturn, ReadsJump, EndsStatement};
-ghost use Rattle.sharc_parse.specs.Statements.{IsStatementPlaced, IsRestPlaced};
+ghost use Rattle.sharc_parse.specs.{Goes.{GoesOn, IsPlace}, Statements.{IsStatementPlaced, IsRestPlaced}};
 ghost use Rattle.sharc_tree.specs.{Tree.return, View.{view_expr, view_option, view_first}};
 
 use crate::head::tail;
 use crate::line::{MayDeclare, line};
-use crate::token::{ReadingFault, expect, span};
+use crate::token::{Reading, expect, span};
 use sharc_tree::token::{Punctuator, Span, Token};
 use sharc_tree::tree::{Expr, ForFirst, Jump, Stmt};
 use std::alloc::Global;
 
 /// A statement of a line.
-fn statement_of(alloc: Global, span: Span, line: ForFirst) -> Result<Stmt, ReadingFault>
+fn statement_of(alloc: Global, span: Span, line: ForFirst) -> Reading<Stmt>
     ensures { BuildsStatement result (line_statement span (view_first line)) }
 {
     match line {
@@ -32,15 +32,13 @@ pub(crate) fn line_statement(
     at: &mut usize,
     declares: MayDeclare,
     room: u8,
-) -> Result<Stmt, ReadingFault>
+) -> Reading<Stmt>
     requires room { room ≤ 64 }
-    requires few { length tokens.now ≤ 2 ^ 20 }
-    requires there { at.old ≤ length tokens.now }
+    requires there { IsPlace tokens.now at.old }
     ensures reads { ReadsLineStatement (is_yes declares) room result (from tokens.now at.old) (from tokens.now at.new) }
     ensures ends { EndsStatement result (from tokens.now at.new) }
     ensures placed { IsStatementPlaced result tokens.now at.old at.new }
-    ensures onward { at.old ≤ at.new }
-    ensures within { at.new ≤ length tokens.now }
+    ensures onward { GoesOn tokens.now at.old at.new }
 {
     let first = *at;
     let line = line(alloc, tokens, at, declares, room)?;
@@ -49,19 +47,13 @@ pub(crate) fn line_statement(
 
 /// What follows the word `break` or `continue`.
 #[tactic(auto, using(crate::proofs::PlainSteps::jump_ends, crate::proofs::Steps::fixed_stuck))]
-pub(crate) fn rest_of_jump(
-    tokens: &[Token],
-    at: &mut usize,
-    jump: Jump,
-) -> Result<Stmt, ReadingFault>
-    requires few { length tokens.now ≤ 2 ^ 20 }
+pub(crate) fn rest_of_jump(tokens: &[Token], at: &mut usize, jump: Jump) -> Reading<Stmt>
     requires behind { 1 ≤ at.old }
-    requires there { at.old ≤ length tokens.now }
+    requires there { IsPlace tokens.now at.old }
     ensures reads { ReadsJump jump result (from tokens.now at.old) (from tokens.now at.new) }
     ensures ends { EndsStatement result (from tokens.now at.new) }
     ensures placed { IsRestPlaced result tokens.now at.old at.new }
-    ensures onward { at.old ≤ at.new }
-    ensures within { at.new ≤ length tokens.now }
+    ensures onward { GoesOn tokens.now at.old at.new }
 {
     let first = *at - 1;
     expect(tokens, at, Punctuator::Semicolon)?;
@@ -69,7 +61,7 @@ pub(crate) fn rest_of_jump(
 }
 
 /// A `return` of what it gives.
-fn return_of(alloc: Global, span: Span, given: Option<Expr>) -> Result<Stmt, ReadingFault>
+fn return_of(alloc: Global, span: Span, given: Option<Expr>) -> Reading<Stmt>
     ensures { BuildsStatement result (return span (view_option view_expr given)) }
 {
     let given = match given {
@@ -81,19 +73,13 @@ fn return_of(alloc: Global, span: Span, given: Option<Expr>) -> Result<Stmt, Rea
 
 /// What follows the word `return`.
 #[tactic(auto, using(crate::proofs::PlainSteps::return_wrong, crate::proofs::PlainSteps::return_reads, crate::proofs::PlainSteps::return_placed))]
-pub(crate) fn rest_of_return(
-    alloc: Global,
-    tokens: &[Token],
-    at: &mut usize,
-) -> Result<Stmt, ReadingFault>
-    requires few { length tokens.now ≤ 2 ^ 20 }
+pub(crate) fn rest_of_return(alloc: Global, tokens: &[Token], at: &mut usize) -> Reading<Stmt>
     requires behind { 1 ≤ at.old }
-    requires there { at.old ≤ length tokens.now }
+    requires there { IsPlace tokens.now at.old }
     ensures reads { ReadsReturn result (from tokens.now at.old) (from tokens.now at.new) }
     ensures ends { EndsStatement result (from tokens.now at.new) }
     ensures placed { IsRestPlaced result tokens.now at.old at.new }
-    ensures onward { at.old ≤ at.new }
-    ensures within { at.new ≤ length tokens.now }
+    ensures onward { GoesOn tokens.now at.old at.new }
 {
     let first = *at - 1;
     let given = tail(alloc, tokens, at)?;

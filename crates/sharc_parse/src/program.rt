@@ -7,7 +7,7 @@ ghost use Rattle.sharc_parse.specs.Programs.{IsToldAt, Refuses, Completes};
 use crate::fault::GrammarFault;
 use crate::grammar_laws;
 use crate::item::item;
-use crate::token::ReadingFault;
+use crate::token::{Reading, ReadingFault};
 use sharc_tree::name::Name;
 use sharc_tree::token::{FaultAt, Token, TokenKind, Tokens};
 use sharc_tree::tree::{Item, Items, Program};
@@ -34,7 +34,7 @@ impl From<AllocError> for ParseFault {
 
 /// The items of all the tokens.
 #[tactic(auto, using(crate::proofs::ProgramSteps::no_items, crate::proofs::ProgramSteps::items_read))]
-fn items(alloc: Global, tokens: &[Token], at: &mut usize) -> Result<Vec<Item>, ReadingFault>
+fn items(alloc: Global, tokens: &[Token], at: &mut usize) -> Reading<Vec<Item>>
     requires few { length tokens.now ≤ 2 ^ 20 }
     requires start { at.old ≡ 0 }
     ensures reads { ReadsItems (λ v. v.items) result tokens.now at.new }

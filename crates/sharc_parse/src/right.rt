@@ -1,12 +1,11 @@
 // Reading the right side of `=`.
 
-ghost use Rattle.std.specs.Prelude.{◌≤◌, ◌^◌, length};
 ghost use Rattle.sharc_parse.specs.{Goes.from, Rights.{ReadsCount, IsCountPlaced, ReadsSized, IsSizedPlaced}};
-ghost use Rattle.sharc_parse.specs.Rights.{ReadsRight, EndsRight, IsRightPlaced};
+ghost use Rattle.sharc_parse.specs.{Goes.{GoesOn, IsPlace}, Rights.{ReadsRight, EndsRight, IsRightPlaced}};
 
 use crate::expr::{binary, unary};
 use crate::held::expect_behind;
-use crate::token::{ReadingFault, expect, expect_keyword, span, take_keyword};
+use crate::token::{Reading, expect, expect_keyword, span, take_keyword};
 use crate::types::{ModePermission, written_type};
 use sharc_tree::held::both;
 use sharc_tree::token::{Keyword, Punctuator, Token};
@@ -15,13 +14,11 @@ use std::alloc::Global;
 
 /// The count of a `malloc` with the `*` after it, if there is one, and `sizeof`.
 #[tactic(auto, using(crate::proofs::RightSteps::count_begins, crate::proofs::RightSteps::count_goes, crate::proofs::RightSteps::count_stuck, crate::proofs::RightSteps::count_sizes, crate::proofs::RightSteps::sizeof_goes, crate::proofs::Steps::fixed_stuck))]
-fn count(alloc: Global, tokens: &[Token], at: &mut usize) -> Result<Option<Expr>, ReadingFault>
-    requires few { length tokens.now ≤ 2 ^ 20 }
-    requires there { at.old ≤ length tokens.now }
+fn count(alloc: Global, tokens: &[Token], at: &mut usize) -> Reading<Option<Expr>>
+    requires there { IsPlace tokens.now at.old }
     ensures reads { ReadsCount result (from tokens.now at.old) (from tokens.now at.new) }
     ensures placed { IsCountPlaced result tokens.now at.old at.new }
-    ensures onward { at.old ≤ at.new }
-    ensures within { at.new ≤ length tokens.now }
+    ensures onward { GoesOn tokens.now at.old at.new }
 {
     if take_keyword(tokens, at, Keyword::Sizeof) {
         return Ok(None);
@@ -34,13 +31,11 @@ fn count(alloc: Global, tokens: &[Token], at: &mut usize) -> Result<Option<Expr>
 
 /// `( plain ) )` after `sizeof`.
 #[tactic(auto, using(crate::proofs::RightSteps::size_closes, crate::proofs::RightSteps::size_stuck, crate::proofs::RightSteps::size_opens, crate::proofs::RightSteps::malloc_closes, crate::proofs::Steps::fixed_stuck))]
-fn sized_type(alloc: Global, tokens: &[Token], at: &mut usize) -> Result<WrittenType, ReadingFault>
-    requires few { length tokens.now ≤ 2 ^ 20 }
-    requires there { at.old ≤ length tokens.now }
+fn sized_type(alloc: Global, tokens: &[Token], at: &mut usize) -> Reading<WrittenType>
+    requires there { IsPlace tokens.now at.old }
     ensures reads { ReadsSized result (from tokens.now at.old) (from tokens.now at.new) }
     ensures placed { IsSizedPlaced result tokens.now at.old at.new }
-    ensures onward { at.old ≤ at.new }
-    ensures within { at.new ≤ length tokens.now }
+    ensures onward { GoesOn tokens.now at.old at.new }
 {
     expect(tokens, at, Punctuator::OpenParenthesis)?;
     let plain = written_type(alloc, tokens, at, ModePermission::LeftOut)?;
@@ -51,14 +46,12 @@ fn sized_type(alloc: Global, tokens: &[Token], at: &mut usize) -> Result<Written
 
 /// The right side of `=`.
 #[tactic(auto, using(crate::proofs::RightSteps::malloc_goes, crate::proofs::RightSteps::malloc_opens, crate::proofs::Steps::fixed_stuck))]
-pub(crate) fn right(alloc: Global, tokens: &[Token], at: &mut usize) -> Result<Right, ReadingFault>
-    requires few { length tokens.now ≤ 2 ^ 20 }
-    requires there { at.old ≤ length tokens.now }
+pub(crate) fn right(alloc: Global, tokens: &[Token], at: &mut usize) -> Reading<Right>
+    requires there { IsPlace tokens.now at.old }
     ensures reads { ReadsRight result (from tokens.now at.old) (from tokens.now at.new) }
     ensures ends { EndsRight result (from tokens.now at.new) }
     ensures placed { IsRightPlaced result tokens.now at.old at.new }
-    ensures onward { at.old ≤ at.new }
-    ensures within { at.new ≤ length tokens.now }
+    ensures onward { GoesOn tokens.now at.old at.new }
 {
     let first = *at;
     if take_keyword(tokens, at, Keyword::Malloc) {

@@ -1,6 +1,7 @@
 // Reading an assignment or a call.
 
-ghost use Rattle.std.specs.Prelude.{◌≡◌, ◌≤◌, ◌^◌, length};
+ghost use Rattle.std.specs.Prelude.{◌≡◌};
+ghost use Rattle.sharc_parse.specs.Goes.{GoesOn, IsPlace};
 ghost use Rattle.sharc_parse.specs.Grammar as grammar;
 ghost use Rattle.sharc_tree.specs.View.{view_expr};
 ghost use Rattle.sharc_parse.specs.{View.phrase_of, Goes.from, Simples.{IsCallOf, ReadsSimple, EndsSimple}};
@@ -8,7 +9,7 @@ ghost use Rattle.sharc_parse.specs.Simples.{IsSimplePlaced};
 
 use crate::expr::unary;
 use crate::right::right;
-use crate::token::{ReadingFault, span, take};
+use crate::token::{Reading, ReadingFault, span, take};
 use sharc_tree::held::both;
 use sharc_tree::token::{Punctuator, Token};
 use sharc_tree::tree::{Expr, Simple};
@@ -28,7 +29,7 @@ fn is_call(expr: &Expr) -> bool
 }
 
 /// A call, as what comes before a `;`.
-fn call_of(expr: Expr) -> Result<Simple, ReadingFault>
+fn call_of(expr: Expr) -> Reading<Simple>
     ensures { IsCallOf result (view_expr expr) }
 {
     if is_call(&expr) {
@@ -40,18 +41,12 @@ fn call_of(expr: Expr) -> Result<Simple, ReadingFault>
 
 /// An assignment or a call.
 #[tactic(auto, using(crate::proofs::SimpleSteps::assign_goes, crate::proofs::SimpleSteps::no_call_there))]
-pub(crate) fn simple(
-    alloc: Global,
-    tokens: &[Token],
-    at: &mut usize,
-) -> Result<Simple, ReadingFault>
-    requires few { length tokens.now ≤ 2 ^ 20 }
-    requires there { at.old ≤ length tokens.now }
+pub(crate) fn simple(alloc: Global, tokens: &[Token], at: &mut usize) -> Reading<Simple>
+    requires there { IsPlace tokens.now at.old }
     ensures reads { ReadsSimple result (from tokens.now at.old) (from tokens.now at.new) }
     ensures ends { EndsSimple result (from tokens.now at.new) }
     ensures placed { IsSimplePlaced result tokens.now at.old at.new }
-    ensures onward { at.old ≤ at.new }
-    ensures within { at.new ≤ length tokens.now }
+    ensures onward { GoesOn tokens.now at.old at.new }
 {
     let first = *at;
     let place = unary(alloc, tokens, at, 64)?;

@@ -1,17 +1,17 @@
 // Reading a statement, and the statements between braces.
 
-ghost use Rattle.std.specs.Prelude.{◌≡◌, true, ◌≤◌, ◌<◌, ◌^◌, length, IfOk};
+ghost use Rattle.std.specs.Prelude.{◌≤◌, ◌<◌, IfOk};
 ghost use Rattle.sharc_tree.specs.{Tree.{if_then, if_then_else, while, for}, View.{view_expr, view_stmt, view_head}};
 ghost use Rattle.sharc_parse.specs.{declared.word.StatementWord.TheVariants.{If, While, For}, Goes.from, Words.room_of};
 ghost use Rattle.sharc_parse.specs.{Lines.is_yes, Statements.{BuildsStatement, ReadsStatement, EndsStatement}};
 ghost use Rattle.sharc_parse.specs.{Statements.{IsStatementPlaced, IsRestPlaced}, Nested.{IsOpen, ReadsRest}};
-ghost use Rattle.sharc_parse.specs.Nested.{ReadsStatements, AreStatementsPlaced};
+ghost use Rattle.sharc_parse.specs.{Goes.{GoesOn, IsPlace}, Nested.{ReadsStatements, AreStatementsPlaced}};
 
 use crate::head::head;
 use crate::held::{box_beside, boxes};
 use crate::line::MayDeclare;
 use crate::plain::{line_statement, rest_of_jump, rest_of_return};
-use crate::token::{ReadingFault, enter, span, take, take_keyword};
+use crate::token::{Reading, enter, span, take, take_keyword};
 use crate::word::{StatementWord, condition, statement_word};
 use sharc_tree::held::both;
 use sharc_tree::token::{Keyword, Punctuator, Span, Token};
@@ -19,7 +19,7 @@ use sharc_tree::tree::{Expr, ForHead, Jump, Stmt};
 use std::alloc::Global;
 
 /// An `if` without `else`.
-fn if_of(alloc: Global, span: Span, test: Expr, then: Stmt) -> Result<Stmt, ReadingFault>
+fn if_of(alloc: Global, span: Span, test: Expr, then: Stmt) -> Reading<Stmt>
     ensures { BuildsStatement result (if_then span (view_expr test) (view_stmt then)) }
 {
     let (test, then) = boxes(alloc, test, then)?;
@@ -27,13 +27,7 @@ fn if_of(alloc: Global, span: Span, test: Expr, then: Stmt) -> Result<Stmt, Read
 }
 
 /// An `if` with its `else`.
-fn else_of(
-    alloc: Global,
-    span: Span,
-    test: Expr,
-    then: Stmt,
-    otherwise: Stmt,
-) -> Result<Stmt, ReadingFault>
+fn else_of(alloc: Global, span: Span, test: Expr, then: Stmt, otherwise: Stmt) -> Reading<Stmt>
     ensures { BuildsStatement result (if_then_else span (view_expr test) (view_stmt then) (view_stmt otherwise)) }
 {
     let (test, branches) = both(test, boxes(alloc, then, otherwise))?;
@@ -47,7 +41,7 @@ fn else_of(
 }
 
 /// A `while`.
-fn while_of(alloc: Global, span: Span, test: Expr, body: Stmt) -> Result<Stmt, ReadingFault>
+fn while_of(alloc: Global, span: Span, test: Expr, body: Stmt) -> Reading<Stmt>
     ensures { BuildsStatement result (while span (view_expr test) (view_stmt body)) }
 {
     let (test, body) = boxes(alloc, test, body)?;
@@ -55,7 +49,7 @@ fn while_of(alloc: Global, span: Span, test: Expr, body: Stmt) -> Result<Stmt, R
 }
 
 /// A `for`.
-fn for_of(alloc: Global, span: Span, head: ForHead, body: Stmt) -> Result<Stmt, ReadingFault>
+fn for_of(alloc: Global, span: Span, head: ForHead, body: Stmt) -> Reading<Stmt>
     ensures { BuildsStatement result (for span (view_head head) (view_stmt body)) }
 {
     let (head, body) = boxes(alloc, head, body)?;
@@ -71,17 +65,15 @@ pub(crate) fn statement(
     at: &mut usize,
     declares: MayDeclare,
     room: u8,
-) -> Result<Stmt, ReadingFault>
+) -> Reading<Stmt>
     requires room { room ≤ 64 }
-    requires few { length tokens.now ≤ 2 ^ 20 }
-    requires there { at.old ≤ length tokens.now }
+    requires there { IsPlace tokens.now at.old }
     requires open { IsOpen (is_yes declares) (from tokens.now at.old) }
     ensures reads { ReadsStatement (is_yes declares) room result (from tokens.now at.old) (from tokens.now at.new) }
     ensures ends { EndsStatement result (from tokens.now at.new) }
     ensures placed { IsStatementPlaced result tokens.now at.old at.new }
     ensures further { IfOk result (λ _. at.old < at.new) }
-    ensures onward { at.old ≤ at.new }
-    ensures within { at.new ≤ length tokens.now }
+    ensures onward { GoesOn tokens.now at.old at.new }
 {
     let first = *at;
     if enter(tokens, at, Punctuator::OpenBrace, room)? {
@@ -102,17 +94,15 @@ fn rest_of_statement(
     at: &mut usize,
     word: StatementWord,
     room: u8,
-) -> Result<Stmt, ReadingFault>
+) -> Reading<Stmt>
     requires enough { room_of word ≤ room }
     requires room { room ≤ 64 }
-    requires few { length tokens.now ≤ 2 ^ 20 }
     requires behind { 1 ≤ at.old }
-    requires there { at.old ≤ length tokens.now }
+    requires there { IsPlace tokens.now at.old }
     ensures reads { ReadsRest word room result (from tokens.now at.old) (from tokens.now at.new) }
     ensures ends { EndsStatement result (from tokens.now at.new) }
     ensures placed { IsRestPlaced result tokens.now at.old at.new }
-    ensures onward { at.old ≤ at.new }
-    ensures within { at.new ≤ length tokens.now }
+    ensures onward { GoesOn tokens.now at.old at.new }
 {
     match word {
         StatementWord::If => rest_of_if(alloc, tokens, at, room),
@@ -127,22 +117,15 @@ fn rest_of_statement(
 /// What follows the word `if`.
 #[cycle(statement)]
 #[tactic(auto, using(crate::proofs::NestedSteps::else_goes, crate::proofs::NestedSteps::if_ends, crate::proofs::NestedSteps::else_ends))]
-fn rest_of_if(
-    alloc: Global,
-    tokens: &[Token],
-    at: &mut usize,
-    room: u8,
-) -> Result<Stmt, ReadingFault>
+fn rest_of_if(alloc: Global, tokens: &[Token], at: &mut usize, room: u8) -> Reading<Stmt>
     requires two { 2 ≤ room }
     requires room { room ≤ 64 }
-    requires few { length tokens.now ≤ 2 ^ 20 }
     requires behind { 1 ≤ at.old }
-    requires there { at.old ≤ length tokens.now }
+    requires there { IsPlace tokens.now at.old }
     ensures reads { ReadsRest If room result (from tokens.now at.old) (from tokens.now at.new) }
     ensures ends { EndsStatement result (from tokens.now at.new) }
     ensures placed { IsRestPlaced result tokens.now at.old at.new }
-    ensures onward { at.old ≤ at.new }
-    ensures within { at.new ≤ length tokens.now }
+    ensures onward { GoesOn tokens.now at.old at.new }
 {
     let first = *at - 1;
     let test = condition(alloc, tokens, at)?;
@@ -158,22 +141,15 @@ fn rest_of_if(
 /// What follows the word `while`.
 #[cycle(statement)]
 #[tactic(auto, using(crate::proofs::NestedSteps::while_ends))]
-fn rest_of_while(
-    alloc: Global,
-    tokens: &[Token],
-    at: &mut usize,
-    room: u8,
-) -> Result<Stmt, ReadingFault>
+fn rest_of_while(alloc: Global, tokens: &[Token], at: &mut usize, room: u8) -> Reading<Stmt>
     requires two { 2 ≤ room }
     requires room { room ≤ 64 }
-    requires few { length tokens.now ≤ 2 ^ 20 }
     requires behind { 1 ≤ at.old }
-    requires there { at.old ≤ length tokens.now }
+    requires there { IsPlace tokens.now at.old }
     ensures reads { ReadsRest While room result (from tokens.now at.old) (from tokens.now at.new) }
     ensures ends { EndsStatement result (from tokens.now at.new) }
     ensures placed { IsRestPlaced result tokens.now at.old at.new }
-    ensures onward { at.old ≤ at.new }
-    ensures within { at.new ≤ length tokens.now }
+    ensures onward { GoesOn tokens.now at.old at.new }
 {
     let first = *at - 1;
     let test = condition(alloc, tokens, at)?;
@@ -184,22 +160,15 @@ fn rest_of_while(
 /// What follows the word `for`.
 #[cycle(statement)]
 #[tactic(auto, using(crate::proofs::NestedSteps::for_ends))]
-fn rest_of_for(
-    alloc: Global,
-    tokens: &[Token],
-    at: &mut usize,
-    room: u8,
-) -> Result<Stmt, ReadingFault>
+fn rest_of_for(alloc: Global, tokens: &[Token], at: &mut usize, room: u8) -> Reading<Stmt>
     requires two { 2 ≤ room }
     requires room { room ≤ 64 }
-    requires few { length tokens.now ≤ 2 ^ 20 }
     requires behind { 1 ≤ at.old }
-    requires there { at.old ≤ length tokens.now }
+    requires there { IsPlace tokens.now at.old }
     ensures reads { ReadsRest For room result (from tokens.now at.old) (from tokens.now at.new) }
     ensures ends { EndsStatement result (from tokens.now at.new) }
     ensures placed { IsRestPlaced result tokens.now at.old at.new }
-    ensures onward { at.old ≤ at.new }
-    ensures within { at.new ≤ length tokens.now }
+    ensures onward { GoesOn tokens.now at.old at.new }
 {
     let first = *at - 1;
     let head = head(alloc, tokens, at)?;
@@ -215,14 +184,12 @@ pub(crate) fn statements(
     tokens: &[Token],
     at: &mut usize,
     room: u8,
-) -> Result<Vec<Stmt>, ReadingFault>
+) -> Reading<Vec<Stmt>>
     requires room { room < 64 }
-    requires few { length tokens.now ≤ 2 ^ 20 }
-    requires there { at.old ≤ length tokens.now }
+    requires there { IsPlace tokens.now at.old }
     ensures reads { ReadsStatements (λ v. v.items) room result (from tokens.now at.old) (from tokens.now at.new) }
     ensures placed { AreStatementsPlaced (λ v. v.items) result tokens.now at.old at.new }
-    ensures onward { at.old ≤ at.new }
-    ensures within { at.new ≤ length tokens.now }
+    ensures onward { GoesOn tokens.now at.old at.new }
 {
     let mut list = Vec::new(alloc);
     while !take(tokens, at, Punctuator::CloseBrace) {

@@ -23,6 +23,9 @@ pub enum ReadingFault {
     Deep,
 }
 
+/// What was read, or why reading ended early.
+pub(crate) type Reading<T> = Result<T, ReadingFault>;
+
 impl From<AllocError> for ReadingFault {
     ghost from_gives = { λ _ e. e ≡ Memory };
 
@@ -107,11 +110,7 @@ pub(crate) fn take(tokens: &[Token], at: &mut usize, punctuator: Punctuator) -> 
 }
 
 /// Goes past a token that has to be that punctuator.
-pub(crate) fn expect(
-    tokens: &[Token],
-    at: &mut usize,
-    punctuator: Punctuator,
-) -> Result<(), ReadingFault>
+pub(crate) fn expect(tokens: &[Token], at: &mut usize, punctuator: Punctuator) -> Reading<()>
     ensures { Expects result (mark punctuator) tokens.now at.old at.new }
 {
     if take(tokens, at, punctuator) {
@@ -139,11 +138,7 @@ pub(crate) fn take_keyword(tokens: &[Token], at: &mut usize, word: Keyword) -> b
 }
 
 /// Goes past a token that has to be that keyword.
-pub(crate) fn expect_keyword(
-    tokens: &[Token],
-    at: &mut usize,
-    word: Keyword,
-) -> Result<(), ReadingFault>
+pub(crate) fn expect_keyword(tokens: &[Token], at: &mut usize, word: Keyword) -> Reading<()>
     ensures { Expects result (keyword word) tokens.now at.old at.new }
 {
     if take_keyword(tokens, at, word) {
@@ -159,7 +154,7 @@ pub(crate) fn enter(
     at: &mut usize,
     punctuator: Punctuator,
     room: u8,
-) -> Result<bool, ReadingFault>
+) -> Reading<bool>
     ensures { Enters result (mark punctuator) room tokens.now at.old at.new }
 {
     if *at >= tokens.len() {
@@ -179,11 +174,7 @@ pub(crate) fn enter(
 }
 
 /// Goes past a name.
-pub(crate) fn name(
-    alloc: Global,
-    tokens: &[Token],
-    at: &mut usize,
-) -> Result<Option<Identifier>, ReadingFault>
+pub(crate) fn name(alloc: Global, tokens: &[Token], at: &mut usize) -> Reading<Option<Identifier>>
     requires { at.old ≤ 2 ^ 20 }
     ensures { TakesName result tokens.now at.old at.new }
 {
@@ -225,7 +216,7 @@ pub(crate) fn unary_operator(
     tokens: &[Token],
     at: &mut usize,
     room: u8,
-) -> Result<Option<UnaryOperator>, ReadingFault>
+) -> Reading<Option<UnaryOperator>>
     ensures { EntersUnary result room tokens.now at.old at.new }
 {
     if *at >= tokens.len() {
@@ -298,7 +289,7 @@ pub(crate) fn operator(
     at: &mut usize,
     least: u8,
     room: u8,
-) -> Result<Option<BinaryOperator>, ReadingFault>
+) -> Reading<Option<BinaryOperator>>
     requires { 1 ≤ least }
     ensures { EntersOperator result least room tokens.now at.old at.new }
 {
@@ -323,11 +314,7 @@ pub(crate) fn operator(
 }
 
 /// Goes past the first word of an expression that a `)` ends, where there is room.
-pub(crate) fn front_word(
-    tokens: &[Token],
-    at: &mut usize,
-    room: u8,
-) -> Result<Option<FrontWord>, ReadingFault>
+pub(crate) fn front_word(tokens: &[Token], at: &mut usize, room: u8) -> Reading<Option<FrontWord>>
     ensures { EntersFront result room tokens.now at.old at.new }
 {
     if *at >= tokens.len() {
@@ -367,11 +354,7 @@ pub(crate) fn is_at(tokens: &[Token], at: usize, punctuator: Punctuator) -> bool
 }
 
 /// Goes past `.` or `->`, where there is room.
-pub(crate) fn access(
-    tokens: &[Token],
-    at: &mut usize,
-    room: u8,
-) -> Result<Option<FieldOperator>, ReadingFault>
+pub(crate) fn access(tokens: &[Token], at: &mut usize, room: u8) -> Reading<Option<FieldOperator>>
     ensures { EntersAccess result room tokens.now at.old at.new }
 {
     if *at >= tokens.len() {

@@ -1,13 +1,14 @@
 // Reading a type.
 
-ghost use Rattle.std.specs.Prelude.{◌≤◌, ◌<◌, ◌^◌, length, IfOk};
+ghost use Rattle.std.specs.Prelude.{◌≤◌, ◌<◌, length, IfOk};
 ghost use Rattle.sharc_parse.specs.{Goes.from, View.bare_type, Types.{may_stand, TakesMode, ReadsPath, IsPathPlaced}};
 ghost use Rattle.sharc_parse.specs.Types.{ReadsModeRest, IsModeRestPlaced, ReadsMode, IsModePlaced, ReadsLevel};
 ghost use Rattle.sharc_parse.specs.Types.{TakesBase, ReadsBase, IsBasePlaced, ReadsBottom, IsBottomPlaced, EndsBottom};
 ghost use Rattle.sharc_parse.specs.Types.{ReadsType, IsTypePlaced, EndsType, IsBare, ReadsCast, IsCastPlaced};
+ghost use Rattle.sharc_parse.specs.Goes.{GoesOn, IsPlace};
 
 use crate::held::expect_behind;
-use crate::token::{ReadingFault, enter, expect, name, site, span, take};
+use crate::token::{Reading, ReadingFault, enter, expect, name, site, span, take};
 use sharc_tree::ctype::{Base, CType, Levels, Mode, Path};
 use sharc_tree::held::both;
 use sharc_tree::token::{Keyword, Punctuator, Site, Token, TokenKind};
@@ -46,13 +47,11 @@ pub(crate) fn mode_word(tokens: &[Token], at: &mut usize) -> Option<ModeWord>
 
 /// The lock path after `locked`, with its parentheses.
 #[tactic(auto, using(crate::proofs::TypeSteps::open_path, crate::proofs::TypeSteps::path_name, crate::proofs::TypeSteps::no_path_name, crate::proofs::TypeSteps::path_arrow, crate::proofs::TypeSteps::path_ends, crate::proofs::TypeSteps::path_ends_not, crate::proofs::TypeSteps::path_second, crate::proofs::TypeSteps::no_path_second, crate::proofs::TypeSteps::path_closes, crate::proofs::Steps::fixed_stuck))]
-fn path(alloc: Global, tokens: &[Token], at: &mut usize) -> Result<Path, ReadingFault>
-    requires few { length tokens.now ≤ 2 ^ 20 }
-    requires there { at.old ≤ length tokens.now }
+fn path(alloc: Global, tokens: &[Token], at: &mut usize) -> Reading<Path>
+    requires there { IsPlace tokens.now at.old }
     ensures reads { ReadsPath result (from tokens.now at.old) (from tokens.now at.new) }
     ensures placed { IsPathPlaced result tokens.now at.old at.new }
-    ensures onward { at.old ≤ at.new }
-    ensures within { at.new ≤ length tokens.now }
+    ensures onward { GoesOn tokens.now at.old at.new }
 {
     expect(tokens, at, Punctuator::OpenParenthesis)?;
     let Some(first) = name(alloc, tokens, at)? else {
@@ -71,18 +70,11 @@ fn path(alloc: Global, tokens: &[Token], at: &mut usize) -> Result<Path, Reading
 }
 
 /// What of a sharing mode follows its first word.
-fn rest_of_mode(
-    alloc: Global,
-    tokens: &[Token],
-    at: &mut usize,
-    word: ModeWord,
-) -> Result<Mode, ReadingFault>
-    requires few { length tokens.now ≤ 2 ^ 20 }
-    requires there { at.old ≤ length tokens.now }
+fn rest_of_mode(alloc: Global, tokens: &[Token], at: &mut usize, word: ModeWord) -> Reading<Mode>
+    requires there { IsPlace tokens.now at.old }
     ensures reads { ReadsModeRest result word (from tokens.now at.old) (from tokens.now at.new) }
     ensures placed { IsModeRestPlaced result word tokens.now at.old at.new }
-    ensures onward { at.old ≤ at.new }
-    ensures within { at.new ≤ length tokens.now }
+    ensures onward { GoesOn tokens.now at.old at.new }
 {
     match word {
         ModeWord::Private => Ok(Mode::Private),
@@ -95,13 +87,11 @@ fn rest_of_mode(
 
 /// A sharing mode, if there is one.
 #[tactic(auto, using(crate::proofs::TypeSteps::mode_goes, crate::proofs::TypeSteps::mode_meets, crate::proofs::TypeSteps::mode_read, crate::proofs::TypeSteps::mode_stands))]
-fn mode(alloc: Global, tokens: &[Token], at: &mut usize) -> Result<Option<Mode>, ReadingFault>
-    requires few { length tokens.now ≤ 2 ^ 20 }
-    requires there { at.old ≤ length tokens.now }
+fn mode(alloc: Global, tokens: &[Token], at: &mut usize) -> Reading<Option<Mode>>
+    requires there { IsPlace tokens.now at.old }
     ensures reads { ReadsMode result (from tokens.now at.old) (from tokens.now at.new) }
     ensures placed { IsModePlaced result tokens.now at.old at.new }
-    ensures onward { at.old ≤ at.new }
-    ensures within { at.new ≤ length tokens.now }
+    ensures onward { GoesOn tokens.now at.old at.new }
 {
     let Some(word) = mode_word(tokens, at) else {
         return Ok(None);
@@ -123,13 +113,11 @@ fn level(
     tokens: &[Token],
     at: &mut usize,
     modes: ModePermission,
-) -> Result<Option<Mode>, ReadingFault>
-    requires few { length tokens.now ≤ 2 ^ 20 }
-    requires there { at.old ≤ length tokens.now }
+) -> Reading<Option<Mode>>
+    requires there { IsPlace tokens.now at.old }
     ensures reads { ReadsLevel (may_stand modes) result (from tokens.now at.old) (from tokens.now at.new) }
     ensures placed { IsModePlaced result tokens.now at.old at.new }
-    ensures onward { at.old ≤ at.new }
-    ensures within { at.new ≤ length tokens.now }
+    ensures onward { GoesOn tokens.now at.old at.new }
 {
     match modes {
         ModePermission::Allowed => mode(alloc, tokens, at),
@@ -171,13 +159,11 @@ pub(crate) fn base_word(tokens: &[Token], at: &mut usize) -> Option<BaseWord>
 
 /// A base, and the place of the token that names it.
 #[tactic(auto, using(crate::proofs::TypeSteps::base_int, crate::proofs::TypeSteps::base_char, crate::proofs::TypeSteps::base_long, crate::proofs::TypeSteps::base_mutex, crate::proofs::TypeSteps::base_void, crate::proofs::TypeSteps::base_struct, crate::proofs::TypeSteps::struct_named, crate::proofs::TypeSteps::no_struct, crate::proofs::TypeSteps::no_base))]
-fn base(alloc: Global, tokens: &[Token], at: &mut usize) -> Result<(Base, Site), ReadingFault>
-    requires few { length tokens.now ≤ 2 ^ 20 }
-    requires there { at.old ≤ length tokens.now }
+fn base(alloc: Global, tokens: &[Token], at: &mut usize) -> Reading<(Base, Site)>
+    requires there { IsPlace tokens.now at.old }
     ensures reads { ReadsBase result (from tokens.now at.old) (from tokens.now at.new) }
     ensures placed { IsBasePlaced result tokens.now at.old at.new }
-    ensures onward { at.old ≤ at.new }
-    ensures within { at.new ≤ length tokens.now }
+    ensures onward { GoesOn tokens.now at.old at.new }
 {
     let first = site(tokens, *at);
     let Some(word) = base_word(tokens, at) else {
@@ -214,14 +200,12 @@ fn moded_base(
     tokens: &[Token],
     at: &mut usize,
     modes: ModePermission,
-) -> Result<Bottom, ReadingFault>
-    requires few { length tokens.now ≤ 2 ^ 20 }
-    requires there { at.old ≤ length tokens.now }
+) -> Reading<Bottom>
+    requires there { IsPlace tokens.now at.old }
     ensures reads { ReadsBottom (may_stand modes) result (from tokens.now at.old) (from tokens.now at.new) }
     ensures ends { EndsBottom (may_stand modes) result (from tokens.now at.new) }
     ensures placed { IsBottomPlaced result tokens.now at.old at.new }
-    ensures onward { at.old ≤ at.new }
-    ensures within { at.new ≤ length tokens.now }
+    ensures onward { GoesOn tokens.now at.old at.new }
 {
     if let Some(mode) = level(alloc, tokens, at, modes)? {
         let (mode, (base, place)) = both(mode, base(alloc, tokens, at))?;
@@ -250,9 +234,8 @@ pub(crate) fn written_type(
     tokens: &[Token],
     at: &mut usize,
     modes: ModePermission,
-) -> Result<WrittenType, ReadingFault>
-    requires few { length tokens.now ≤ 2 ^ 20 }
-    requires there { at.old ≤ length tokens.now }
+) -> Reading<WrittenType>
+    requires there { IsPlace tokens.now at.old }
     ensures reads { ReadsType (may_stand modes) result (from tokens.now at.old) (from tokens.now at.new) }
     ensures ends { EndsType (may_stand modes) result (from tokens.now at.new) }
     ensures placed { IsTypePlaced result tokens.now at.old at.new }
@@ -295,17 +278,11 @@ pub(crate) fn is_bare(written: &WrittenType) -> bool
 
 /// `( type ,` after `SCAST`.
 #[tactic(auto, using(crate::proofs::TypeSteps::cast_opens, crate::proofs::TypeSteps::cast_comma, crate::proofs::TypeSteps::cast_stuck, crate::proofs::Steps::fixed_stuck))]
-pub(crate) fn cast_type(
-    alloc: Global,
-    tokens: &[Token],
-    at: &mut usize,
-) -> Result<WrittenType, ReadingFault>
-    requires few { length tokens.now ≤ 2 ^ 20 }
-    requires there { at.old ≤ length tokens.now }
+pub(crate) fn cast_type(alloc: Global, tokens: &[Token], at: &mut usize) -> Reading<WrittenType>
+    requires there { IsPlace tokens.now at.old }
     ensures reads { ReadsCast result (from tokens.now at.old) (from tokens.now at.new) }
     ensures placed { IsCastPlaced result tokens.now at.old at.new }
-    ensures onward { at.old ≤ at.new }
-    ensures within { at.new ≤ length tokens.now }
+    ensures onward { GoesOn tokens.now at.old at.new }
 {
     expect(tokens, at, Punctuator::OpenParenthesis)?;
     let written = written_type(alloc, tokens, at, ModePermission::Allowed)?;

@@ -1,11 +1,11 @@
 // Reading the words that statements begin with, and conditions.
 
-ghost use Rattle.std.specs.Prelude.{◌≤◌, ◌^◌, length};
 ghost use Rattle.sharc_parse.specs.{Goes.from, Words.{EntersStatement, ReadsCondition, IsConditionPlaced}};
+ghost use Rattle.sharc_parse.specs.Goes.{GoesOn, IsPlace};
 
 use crate::expr::binary;
 use crate::held::expect_behind;
-use crate::token::{ReadingFault, expect};
+use crate::token::{Reading, ReadingFault, expect};
 use sharc_tree::token::{Keyword, Punctuator, Token, TokenKind};
 use sharc_tree::tree::Expr;
 use std::alloc::Global;
@@ -26,7 +26,7 @@ pub(crate) fn statement_word(
     tokens: &[Token],
     at: &mut usize,
     room: u8,
-) -> Result<Option<StatementWord>, ReadingFault>
+) -> Reading<Option<StatementWord>>
     ensures { EntersStatement result room tokens.now at.old at.new }
 {
     if *at >= tokens.len() {
@@ -51,17 +51,11 @@ pub(crate) fn statement_word(
 
 /// The condition of an `if` or a `while`, with its parentheses.
 #[tactic(auto, using(crate::proofs::WordSteps::condition_opens, crate::proofs::WordSteps::condition_ends, crate::proofs::WordSteps::condition_stuck, crate::proofs::Steps::fixed_stuck))]
-pub(crate) fn condition(
-    alloc: Global,
-    tokens: &[Token],
-    at: &mut usize,
-) -> Result<Expr, ReadingFault>
-    requires few { length tokens.now ≤ 2 ^ 20 }
-    requires there { at.old ≤ length tokens.now }
+pub(crate) fn condition(alloc: Global, tokens: &[Token], at: &mut usize) -> Reading<Expr>
+    requires there { IsPlace tokens.now at.old }
     ensures reads { ReadsCondition result (from tokens.now at.old) (from tokens.now at.new) }
     ensures placed { IsConditionPlaced result tokens.now at.old at.new }
-    ensures onward { at.old ≤ at.new }
-    ensures within { at.new ≤ length tokens.now }
+    ensures onward { GoesOn tokens.now at.old at.new }
 {
     expect(tokens, at, Punctuator::OpenParenthesis)?;
     let piece = binary(alloc, tokens, at, 1, 64)?;

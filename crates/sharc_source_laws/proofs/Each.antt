@@ -1,17 +1,6 @@
 -- What is so of the constants of a function, by recursion over the tree, is so of each constant among its expressions.
-use Rattle.sharc_source_laws.proofs.Imports.{◌≡◌, ℕ, zero, suc, ◌<◌, List, [], ◌∷◌, ◌++◌, length, slice_index_or, slice_get, ap, subst, arith, Option, Some, None, AllByRecursion, expressions, in_arguments, in_option, in_right, in_simple, in_first, in_head, in_statement, in_statements, in_function, Expression, parentheses, spawn, on_value, on_place, cast, Arguments, no_arguments, argument, Right, Simple, does_call, First, Head, Statement, declare, simple, if_then, if_then_else, while, for, Statements, no_statements, statement, functions_in, IsHeld, HeldIn, HeldInAll, HeldInOption, HeldInRight, HeldInSimple, HeldInInitial, HeldInFirst, HeldInStep, HeldInHead, HeldInStatement, HeldInStatements, ConstantsAreHeld, EachConstantIsHeld, both}
+use Rattle.sharc_source_laws.proofs.Imports.{List, ◌++◌, Option, Some, None, AllByRecursion, of_each, place_of_element, expressions, in_arguments, in_option, in_right, in_simple, in_first, in_head, in_statement, in_statements, in_function, Expression, parentheses, spawn, on_value, on_place, cast, Arguments, no_arguments, argument, Right, Simple, does_call, First, Head, Statement, declare, simple, if_then, if_then_else, while, for, Statements, no_statements, statement, functions_in, IsHeld, HeldIn, HeldInAll, HeldInOption, HeldInRight, HeldInSimple, HeldInInitial, HeldInFirst, HeldInStep, HeldInHead, HeldInStatement, HeldInStatements, ConstantsAreHeld, EachConstantIsHeld, both}
 use Rattle.sharc_tree.specs.Tree.{identifier, constant, call, index, field, unary, binary, value, malloc, assign, nothing, declares, does, block, return}
-
--- ---- lists
-there : {A : Type 0} (P : A → Type 0) (list : List A) (x : A) (k : ℕ) → AllByRecursion P list → k < length list → slice_index_or list k x ≡ x → P x
-there P [] x k h lt is = absurd (omega (arith, lt))
-there P (y ∷ rest) x zero h lt is = subst P is h.0
-there P (y ∷ rest) x (suc k) h lt is = there P rest x k h.1 (omega (arith, lt)) is
-
-found : {A : Type 0} (list : List A) (x : A) (k : ℕ) → k < length list → slice_index_or list k x ≡ x → slice_get list k ≡ Some x
-found [] x k lt is = absurd (omega (arith, lt))
-found (y ∷ rest) x zero lt is = ap Some is
-found (y ∷ rest) x (suc k) lt is = found rest x k (omega (arith, lt)) is
 
 -- ---- what is said of each expression
 abbrev IsSelfHeld : Expression → Type 0
@@ -90,4 +79,5 @@ mutual
 -- so of the constants among the expressions of each function
 pub each_held : ConstantsAreHeld → EachConstantIsHeld
 each_held held source tokens p read reads f stands s k inside =
-    there IsSelfHeld (in_function f) (constant s k) inside.0 (of_statements f.statements (held source tokens p read reads stands.0 f (found (functions_in p.items) f stands.0 stands.1 stands.2))) inside.1 inside.2
+    let at = place_of_element (functions_in p.items) f stands in
+    of_each IsSelfHeld (in_function f) (constant s k) (of_statements f.statements (held source tokens p read reads at.0 f at.1)) inside

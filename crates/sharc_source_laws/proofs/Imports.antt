@@ -1,7 +1,7 @@
 -- What the proofs cite of std, of other crates and of this crate's definitions, passed on from one place.
 pub use Rattle.std.proofs.{Common.{Bool, Err, List, None, Ok, Option, Result, Some, [], ap, arith, codes, drop, false, if◌then◌else◌, is_ok, length, ok_or, pos, refl, slice_index_or, subst, suc, sym, take, true, zero, ℕ, ◌&&◌, ◌++◌, ◌+◌, ◌-◌, ◌<◌, ◌==◌, ◌∙◌, ◌∷◌, ◌≡◌}, lemmas.Bool.Decides.nat_tests}
 pub use Rattle.std.specs.{List.{AllByRecursion, prefix_len, starts_with}, Prelude.{nat_eq, nat_le, nat_lt, not, option_map, slice_get, unwrap_or, ◌^◌, ◌||◌}, Str.bytes_eq}
-pub use Rattle.sharc_lemmas.proofs.Lists.{both}
+pub use Rattle.sharc_lemmas.proofs.Lists.{both, of_each, place_of_element}
 pub use Rattle.sharc_tree.specs.{Measures.{expressions, in_arguments, in_first, in_function, in_head, in_option, in_right, in_simple, in_statement, in_statements}, Tree.{Arguments, Expression, First, Function, Head, Right, Simple, Statement, Statements, argument, cast, declare, does_call, for, if_then, if_then_else, no_arguments, no_statements, on_place, on_value, parentheses, simple, spawn, statement, while}, declared.ctype.Base.Base, declared.token.FaultAt.FaultAt, declared.token.Keyword.Keyword, declared.token.Number.Number, declared.token.NumberType.TheVariants.{Int, Long}, declared.token.Punctuator.Punctuator, declared.token.Punctuator.TheVariants.{Assign, CloseBrace, CloseBracket, CloseParenthesis, Comma, OpenBrace, OpenBracket, OpenParenthesis, Percent, Semicolon, Star}, declared.token.Site.Site, declared.token.Span.Span, declared.token.Token.Token, declared.token.TokenKind.TokenKind, declared.token.Tokens.Tokens, declared.tree.expression.BinaryOperator.BinaryOperator, declared.tree.expression.Constant.Constant, declared.tree.expression.FieldOperator.FieldOperator, declared.tree.expression.PlaceCall.PlaceCall, declared.tree.expression.UnaryOperator.UnaryOperator, declared.tree.expression.UnaryOperator.TheVariants.Not, declared.tree.expression.ValueCall.ValueCall, declared.tree.item.GlobalDefinition.GlobalDefinition, declared.tree.item.GlobalForm.GlobalForm, declared.tree.item.GlobalForm.TheVariants.Initial, declared.tree.statement.Jump.Jump}
 pub use Rattle.sharc_lex.specs.{Bytes.{is_blank, is_digit, is_letter, is_printable, is_white_space, is_word_byte}, Characters.{behind_backslash, character, escaped, plain}, Grammar.{Read, at_offset, behind_tokens, in_front, line_read, lines_of, lines_read, marked, marker_line, opening, text_line, token, tokens_of, tokens_read, with_place, with_tokens, ◌>>=◌}, Markers.{is_marker_line, marker}, Numbers.{has_suffix, small_value, typed, without_suffix}, Punctuators.{first_begun, punctuator, punctuators}, TokenAt.{number_at, of_len, token_at, word_at}, Words.{entry_at, word}, declared.fault.LineFault.LineFault, declared.fault.SourceLine.SourceLine, declared.fault.TokenFault.TokenFault, declared.token_at.Lexeme.Lexeme}
 unfoldable pub use Rattle.sharc_lex.specs.{Grammar.reading, Words.keywords}

@@ -1,5 +1,5 @@
 -- A source that holds a line of a schedule, or the first of events, has two `%` in a row among its tokens, and so is no program.
-use Rattle.sharc_source_laws.proofs.{Imports.{◌≡◌, ℕ, ◌+◌, ◌==◌, Bool, true, false, List, [], ◌∷◌, ◌++◌, drop, Option, Some, None, Result, Ok, Err, ok_or, is_ok, codes, refl, sym, ap, ◌∙◌, subst, if◌then◌else◌, FaultAt, Token, Tokens, TokenFault, LineFault, SourceLine, ◌>>=◌, in_front, lines_of, token, tokens_of, behind_tokens, Read, opening, marked, with_tokens, marker_line, text_line, line_read, with_place, lines_read, tokens_read, reading, is_marker_line, TokenKind, Punctuator, mark, word_of, words_of, schedule_word, ProgramsHoldNoEvents, ProgramsHoldNoSchedule}, Ends.{Apart, program_apart, apart_before, not_twice}}
+use Rattle.sharc_source_laws.proofs.{Imports.{◌≡◌, ℕ, ◌+◌, ◌==◌, Bool, true, false, List, [], ◌∷◌, ◌++◌, drop, Option, Some, None, Result, Ok, Err, ok_or, is_ok, codes, refl, sym, ap, ◌∙◌, subst, if◌then◌else◌, FaultAt, Token, Tokens, TokenFault, LineFault, SourceLine, ◌>>=◌, in_front, lines_of, token, tokens_of, behind_tokens, Read, opening, marked, with_tokens, marker_line, text_line, line_read, with_place, lines_read, tokens_read, reading, is_marker_line, TokenKind, Punctuator, mark, word_of, words_of, schedule_word, ProgramsHoldNoEvents, ProgramsHoldNoSchedule}, Ends.{Apart, program_apart, apart_before, not_twice}, Unsigned.list_of}
 
 -- ---- tokens
 abbrev Fine : List Token → Type 0
@@ -142,10 +142,6 @@ source_refuses letter refused before rest word =
     let lines = behind_newline before rest in
     subst (λ l. Refuses (lines_read opening 0 l)) (sym (lines.is ∙ ap (λ l. lines.first ∷ (lines.others ++ l)) word.is))
     (lines_refuse (lines.first ∷ lines.others) (37 ∷ 37 ∷ letter ∷ word.tail) word.others (refused word.tail) opening 0)
-
-abbrev list_of : Result Tokens (FaultAt TokenFault) → List Token
-list_of (Ok tokens) = tokens.list
-list_of (Err e) = []
 
 no_tokens : (r : Result Read (FaultAt TokenFault)) (tokens : Tokens) → Refuses r → (r >>= λ read. Ok (tokens_read read)) ≡ Ok tokens → Fine tokens.list → ⊥
 no_tokens (Ok read) tokens refuses e h = refuses (subst Fine (sym (ap list_of e)) h)

@@ -218,7 +218,7 @@ lines_plain (line ∷ lines) read h offset = joined (line_read read offset line)
     joined (Ok more) f h all = all more h
     joined (Err e) f h all = tt
 
-abbrev list_of : Result Tokens (FaultAt TokenFault) → List Token
+abbrev pub list_of : Result Tokens (FaultAt TokenFault) → List Token
 list_of (Ok tokens) = tokens.list
 list_of (Err e) = []
 

@@ -1,25 +1,12 @@
 -- The flat code of a typable program, with its texts laid out, is typed whatever checks are remembered.
 use Rattle.sharc_typed_laws.proofs.{Imports.{AllByRecursion, ◌≡◌, ℕ, zero, suc, ◌+◌, ◌<◌, true, false, List, [], ◌∷◌, length, map, Option, Some, None, refl, sym, ap, ◌∙◌, subst, arith, same_Some, none-some, slice_get_within, slice_get, slice_index_or, Function, declared_kind, Row, GlobalCells, Text, no_function, function_of, Resolution, functions_in, function_at, Assignment, FlatCode, Op, Flat, flat_function, flat_of, in_function, function_code, functions_code, rows_of, Flattens, names_of, told_by, with_texts, AreLaid, AreNamed, FitsMade, int_count, globals_of, place, entered_at, dropped, Less, Closed, IsScoped, MayStart, ints_in, refs_in, entry_label, FlatLabels, outside, To, IsTypedAnyhow, Mark, Setting, IsLine, flat_labels, labels_by, mark, Typing, label_of, AreAllLines, LinesAreTyped, LinesTell, LinesKnow, FunctionTypable, FunctionsAreTyped, AreGlobalsNamed, TypableProgram, IsSettingOf, found, Agrees, Fits, agrees_all, before, first, get_or_past}, Framing.{AreFew, are_within}, Arrays.{arrays_low, globals_there}, Remembered.{variables, low}, Starting.{signature_plain, starts_by}, Texts.line_told}
 use Rattle.sharc_flat.specs.Flattened.{AreRows}
-use Rattle.sharc_flat_lemmas.proofs.Functions.{Parts, Whole, are_rows, begin_of, is_there, owner_of, row_of, rows_as_many, whole}
+use Rattle.sharc_flat_lemmas.proofs.{Functions.{Parts, Whole, are_rows, begin_of, is_there, owner_of, row_of, rows_as_many, whole}, Laid.{lines_many, mapped_same, rows_many, rows_same, told_at}}
+use Rattle.sharc_lemmas.proofs.Lists.{map_length}
 use Rattle.sharc_flat_laws.specs.Tables.{MadeIsPast, OpPast}
 use Rattle.sharc_invariant.specs.{Typed.IsPlain, Types.Targets}
 
 -- ---- lines with their texts laid out
-record Told (told : List Op) (n : ℕ) (p : Op) : Type 0 where
-  of : Op
-  at : slice_get told n ≡ Some of
-  lvalue : Text
-  lock : Text
-  is : p ≡ with_texts lvalue lock of
-
-told_at : (r : Resolution) (bytes : List ℕ) (os ps : List Op) → AreLaid r bytes os ps → (n : ℕ) (p : Op) → slice_get ps n ≡ Some p → Told os n p
-told_at r bytes [] [] h n p at = absurd (none-some p at)
-told_at r bytes [] (q ∷ ps) h n p at = absurd h
-told_at r bytes (o ∷ os) [] h n p at = absurd h
-told_at r bytes (o ∷ os) (q ∷ ps) h zero p at = record { of = o; at = refl; lvalue = h.0.lvalue; lock = h.0.lock; is = sym (same_Some q p at) ∙ h.0.is }
-told_at r bytes (o ∷ os) (q ∷ ps) h (suc n) p at = let w = told_at r bytes os ps h.1 n p at in record { of = w.of; at = w.at; lvalue = w.lvalue; lock = w.lock; is = w.is }
-
 record Laid (made : List Op) (n : ℕ) (o : Op) : Type 0 where
   lvalue : Text
   lock : Text
@@ -32,41 +19,10 @@ laid_at r bytes (x ∷ os) [] h n o at = absurd h
 laid_at r bytes (x ∷ os) (q ∷ ps) h zero o at = record { lvalue = h.0.lvalue; lock = h.0.lock; at = ap Some (h.0.is ∙ ap (with_texts h.0.lvalue h.0.lock) (same_Some x o at)) }
 laid_at r bytes (x ∷ os) (q ∷ ps) h (suc n) o at = let w = laid_at r bytes os ps h.1 n o at in record { lvalue = w.lvalue; lock = w.lock; at = w.at }
 
-laid_length : (r : Resolution) (bytes : List ℕ) (os ps : List Op) → AreLaid r bytes os ps → length ps ≡ length os
-laid_length r bytes [] [] h = refl
-laid_length r bytes [] (q ∷ ps) h = absurd h
-laid_length r bytes (o ∷ os) [] h = absurd h
-laid_length r bytes (o ∷ os) (q ∷ ps) h = ap suc (laid_length r bytes os ps h.1)
-
 past_at : (os : List Op) → AllByRecursion OpPast os → (n : ℕ) (o : Op) → slice_get os n ≡ Some o → OpPast o
 past_at [] h n o at = absurd (none-some o at)
 past_at (x ∷ os) h zero o at = subst OpPast (same_Some x o at) h.0
 past_at (x ∷ os) h (suc n) o at = past_at os h.1 n o at
-
--- ---- rows
-rows_same : {A : Type 0} (of : Row → A) → ((row : Row) (name : Text) → of (record row { name = name }) ≡ of row) → (bytes : List ℕ) (xs ys : List Row) (ns : List (List ℕ)) → AreNamed bytes xs ns ys → (f : ℕ) → of (slice_index_or ys f no_function) ≡ of (slice_index_or xs f no_function)
-rows_same of h bytes [] [] [] a f = refl
-rows_same of h bytes [] (y ∷ ys) [] a f = absurd a
-rows_same of h bytes (x ∷ xs) [] [] a f = absurd a
-rows_same of h bytes (x ∷ xs) (y ∷ ys) (n ∷ ns) a zero = ap of a.0.is ∙ h x a.0.name_at
-rows_same of h bytes (x ∷ xs) (y ∷ ys) (n ∷ ns) a (suc f) = rows_same of h bytes xs ys ns a.1 f
-rows_same of h bytes _ _ _ a f = absurd a
-
-named_length : (bytes : List ℕ) (xs ys : List Row) (ns : List (List ℕ)) → AreNamed bytes xs ns ys → length ys ≡ length xs
-named_length bytes [] [] [] a = refl
-named_length bytes [] (y ∷ ys) [] a = absurd a
-named_length bytes (x ∷ xs) [] [] a = absurd a
-named_length bytes (x ∷ xs) (y ∷ ys) (n ∷ ns) a = ap suc (named_length bytes xs ys ns a.1)
-named_length bytes _ _ _ a = absurd a
-
-entered_same : {A : Type 0} (of : Row → A) → ((row : Row) (pc : ℕ) → of (record row { entry = pc }) ≡ of row) → (pl : ℕ → ℕ) (rows : List Row) (n : ℕ) → of (slice_index_or (map (entered_at pl) rows) n no_function) ≡ of (slice_index_or rows n no_function)
-entered_same of h pl [] n = refl
-entered_same of h pl (row ∷ rows) zero = h row (pl row.entry)
-entered_same of h pl (row ∷ rows) (suc n) = entered_same of h pl rows n
-
-entered_length : (pl : ℕ → ℕ) (rows : List Row) → length (map (entered_at pl) rows) ≡ length rows
-entered_length pl [] = refl
-entered_length pl (row ∷ rows) = ap suc (entered_length pl rows)
 
 -- what is said before the first of some lines
 first_there : (targets : Targets) (table : ℕ → Mark) (pc : ℕ) (marks : List Mark) (s : Mark) → 0 < length marks → Agrees table pc marks → Fits targets s (first marks s) → Fits targets s (table pc)
@@ -103,8 +59,11 @@ module _ (typed_lines : LinesAreTyped) (tell : LinesTell) (know : LinesKnow) (fu
   rows_named : AreNamed bytes rows (names_of fs) made.functions
   rows_named = flattens.lays.functions
 
+  functions_made : length fs ≡ length made.functions
+  functions_made = rows_as_many m globals 0 fs rows are ∙ rows_many bytes rows (names_of fs) made.functions rows_named
+
   many : length made.lines ≡ length L
-  many = laid_length m.typed bytes L made.lines lines_laid
+  many = sym (lines_many m.typed bytes L made.lines lines_laid)
 
   few : AreFew L
   few n o at = λ i elements cells field spot e.
@@ -119,10 +78,10 @@ module _ (typed_lines : LinesAreTyped) (tell : LinesTell) (know : LinesKnow) (fu
   code_functions = (λ i. (of.code.generated.functions i).items) ∙ of.code.made.functions
 
   functions_many : length z.code.functions.items ≡ length fs
-  functions_many = ap length code_functions ∙ entered_length pl made.functions ∙ named_length bytes rows made.functions (names_of fs) rows_named ∙ sym (rows_as_many m globals 0 fs rows are)
+  functions_many = ap length code_functions ∙ map_length (entered_at pl) made.functions ∙ sym functions_made
 
   in_code : {A : Type 0} (of : Row → A) → ((row : Row) (pc : ℕ) → of (record row { entry = pc }) ≡ of row) → ((row : Row) (name : Text) → of (record row { name = name }) ≡ of row) → (n : ℕ) → of (function_of z.code n) ≡ of (slice_index_or rows n no_function)
-  in_code of entered renamed n = ap (λ rows. of (slice_index_or rows n no_function)) code_functions ∙ entered_same of entered pl made.functions n ∙ rows_same of renamed bytes rows made.functions (names_of fs) rows_named n
+  in_code of entered renamed n = ap (λ rows. of (slice_index_or rows n no_function)) code_functions ∙ mapped_same of (entered_at pl) (λ row. entered row (pl row.entry)) made.functions n ∙ rows_same of renamed bytes rows (names_of fs) made.functions rows_named n
 
   ints_are : (n : ℕ) → (function_of z.code n).ints ≡ (slice_index_or rows n no_function).ints
   ints_are = in_code (λ row. row.ints) (λ row pc. refl) (λ row name. refl)
@@ -179,7 +138,7 @@ module _ (typed_lines : LinesAreTyped) (tell : LinesTell) (know : LinesKnow) (fu
   lines : AreAllLines z owner table made
   lines n o at =
       let w = told_at m.typed bytes L made.lines lines_laid n o at in
-      subst (IsLine z (owner n) table n (table n)) (sym w.is) (line_told w.lvalue w.lock z (owner n) table n (table n) w.of (told_lines n w.of w.at))
+      subst (IsLine z (owner n) table n (table n)) (sym w.is) (line_told w.lvalue w.lock z (owner n) table n (table n) w.line (told_lines n w.line w.at))
 
   past : (n : ℕ) (o : Op) → slice_get made.lines n ≡ Some o → OpPast o
   past n o at = past_at made.lines (made_past m (globals_there m known fs (λ f c. c)) (arrays_low m.typed) flat flattens) n o at
@@ -190,11 +149,11 @@ module _ (typed_lines : LinesAreTyped) (tell : LinesTell) (know : LinesKnow) (fu
 
   entries : (f : ℕ) → f < length made.functions → To (labels_by z table) (length made.lines) (flat_function made f).entry (entry_label (labels_by z table) f)
   entries f lt =
-      let lt2 : f < length fs = subst (λ n. f < n) (named_length bytes rows made.functions (names_of fs) rows_named ∙ sym (rows_as_many m globals 0 fs rows are)) lt in
+      let lt2 : f < length fs = subst (λ n. f < n) (sym functions_made) lt in
       let g = found fs f lt2 in
       let row = row_of m globals 0 fs rows are f g.0 g.1 in
       let there = is_there m globals 0 fs f g.0 g.1 in
-      let here : (flat_function made f).entry ≡ begin_of m globals 0 fs f = rows_same (λ row. row.entry) (λ row name. refl) bytes rows made.functions (names_of fs) rows_named f ∙ row.entry in
+      let here : (flat_function made f).entry ≡ begin_of m globals 0 fs f = rows_same (λ row. row.entry) (λ row name. refl) bytes rows (names_of fs) made.functions rows_named f ∙ row.entry in
       let fits = functions.begins table agrees f g.0 g.1 in
       subst (λ pc. To (labels_by z table) (length made.lines) pc (entry_label (labels_by z table) f)) (sym here)
       (omega (arith, there.high, many), subst (λ l. Less l (table (begin_of m globals 0 fs f)).label) (sym (entry_is f g.0 (t.functions f g.0 g.1))) fits.less)

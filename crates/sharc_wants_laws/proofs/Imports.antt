@@ -8,7 +8,7 @@ pub use Rattle.sharc_names.specs.{Kinds.{Kind, array, declared_kind, declared_ki
 pub use Rattle.sharc_ctype.specs.{Expressions.{binary_result, class_of, constant_kind, number_kind}, Reaches.Spawns, Resolved.{IsResolved, Resolution, declaration_at, function_at, functions_in, global_at, kind_at, named_at, variable_kind}, Statements.{first_locals, locals_in, locals_in_all}, Transfers.parameters_named}
 pub use Rattle.sharc_ctype_laws.specs.{Constraints.{Assignable, Callee, Common, HasType, HaveTypes, IsInteger, IsPointer, a_call, a_cast, a_constant, a_field, a_field_behind, a_function, a_global, a_variable, arithmetic, both_shorter, complemented, denied, element_of_array, element_of_pointer, equated, in_parentheses, integer, joined, negated, none_left, null_pointer, of_conditions, of_program, one_more, pointed_to, pointer, printed_or_joined, related, shifted, spawned, unlocked}, Declared.{IsItself, NameThemselves}, Laws.{ArePlain, EachNamesItself, MeetsConstraints, MeetsStatements, OneType}, Rules.{AllMeet, IsHeld, Meets, MeetsFirst, MeetsRules, MeetsSimple}}
 pub use Rattle.sharc_mode.specs.{Cells.{cell_at, pointed}, Moded.Assignment, Rows.{cast_row, declared_row, row_at, written}, Sharings.{Sharing, locked, private}}
-pub use Rattle.sharc_meaning.specs.{Arithmetic.{bits_of, complement, fits, is_zero, negated as negative, operated, truth}, Cells.{Guard, behind, cell_of, element_cells, global_elements, guard_of, instance_mode, mutex, nothing as no_mutex, through}, Events.{Access, Stands, access_by, events_of, freed_by, frees, held_mutexes, holds_mutex, is_number, is_of, latest, makes}, Expressions.{Calls, binary_value, called, cast_value, eval, eval_all, fitting, named_value, number_named, operand, passed, place_called, place_of, place_value, resulting, spawned as spawning, taking, tested, value_act, value_called}, Frees.{EmptiedWereTaken, EmptiesAtNext, FreesFollow, FreesFollowIn, takes_something}, Laws.AskLaws, Meaning.{Asked, asked_by, back_in, call_value, calls, goes_away, left_at, parameters_begin, pointers_passed, run_function, run_thread, with_frame}, Obeys.History, Places.{StorePlace, access_mode, based, cast_to, cell, element, element_of_array as element_in, fetched, field_in, freed, guarding, index_place, nulled, place_named, pointee, pointee_place, stored, taken_from, variable}, Reference.{NULL, constant_value, elements_of, is_null, number_of}, References.{Begun, Holder, References, ThreadHolds, asked_with, has_pointer, held_count, in_argument, in_cell, in_mutex, in_thread, is_pointer_of, is_pointer_of_made, is_taken_to_free, passes, refers, taken_to_free, takes_reference, takes_to_free}, Runs.{IsFirst, IsNamedAt, IsSpawned, answers_of, by, is_named_main}, State.{Frame, Out, Outcome, Run, State, Step, Use, all_released, answer_of, answered, begins_with, done, drops, ended, ends_temporaries, ends_variables, entered, enters_with, event_of, give, gives_up, go, happens, held_by_frame, held_references, holds, holds_reference, in_block, is_reference, looks_at, moves, moves_on, new_variable, nulls, over, performs, pointers_among, reads, reads_variable, sets, spent, stop, stopped, temporarily, then_on, traces, unless_stop, value_in, value_of, wants, with_value, without_temporaries, writes, ◌>>=◌, ◌>>◌}, Statements.{Flow, broken, declared, done_first, done_simple, done_step, done_test, elements_made, exec_all, initialised, is_positive, left_by, loop, next, on_next, return_with, returned, right_value, turns}, Store.{form_value, global_value, initial_value, is_live, is_natural, is_spawn, meets, spawns, value_after}, Waiting.{broadcast_call, cell_at_place, condition_call, gives_up_base, lock_call, moves_base, signal_call, unlock_call, wait_call}, declared.given.GivenUp.GivenUp, declared.given.GivenUp.TheVariants.{Emptied, Released, Replaced}, declared.variable.Variable.Variable}
+pub use Rattle.sharc_meaning.specs.{Arithmetic.{bits_of, complement, fits, is_zero, negated as negative, operated, truth}, Cells.{Guard, behind, cell_of, element_cells, global_elements, guard_of, instance_mode, mutex, nothing as no_mutex, through}, Events.{Access, Stands, access_by, events_of, freed_by, frees, held_mutexes, holds_mutex, is_number, is_of, latest, makes}, Expressions.{Calls, binary_value, called, cast_value, eval, eval_all, fitting, named_value, number_named, operand, passed, place_called, place_of, place_value, resulting, spawned as spawning, taking, tested, value_act, value_called}, Frees.{EmptiedWereTaken, EmptiesAtNext, FreesFollow, FreesFollowIn, takes_something}, Laws.AskLaws, Meaning.{Asked, asked_by, back_in, call_value, calls, goes_away, left_at, parameters_begin, pointers_passed, run_function, run_thread, with_frame}, Obeys.History, Places.{StorePlace, access_mode, based, cast_to, cell, element, element_of_array as element_in, fetched, field_in, freed, guarding, index_place, nulled, place_named, pointee, pointee_place, stored, taken_from, variable}, Reference.{NULL, constant_value, elements_of, is_null, number_of}, References.{Begun, Holder, References, ThreadHolds, asked_with, has_pointer, held_count, in_argument, in_cell, in_mutex, in_thread, is_pointer_of, is_pointer_of_made, is_taken_to_free, passes, refers, taken_to_free, takes_reference, takes_to_free}, Runs.{IsNamedAt, IsSpawned, answers_of, by, is_named_main}, State.{Frame, Out, Outcome, Run, State, Step, Use, all_released, answer_of, answered, begins_with, done, drops, ended, ends_temporaries, ends_variables, entered, enters_with, event_of, give, gives_up, go, happens, held_by_frame, held_references, holds, holds_reference, in_block, is_reference, looks_at, moves, moves_on, new_variable, nulls, over, performs, pointers_among, reads, reads_variable, sets, spent, stop, stopped, temporarily, then_on, traces, unless_stop, value_in, value_of, wants, with_value, without_temporaries, writes, ◌>>=◌, ◌>>◌}, Statements.{Flow, broken, declared, done_first, done_simple, done_step, done_test, elements_made, exec_all, initialised, is_positive, left_by, loop, next, on_next, return_with, returned, right_value, turns}, Store.{form_value, global_value, initial_value, is_live, is_natural, is_spawn, meets, spawns, value_after}, Waiting.{broadcast_call, cell_at_place, condition_call, gives_up_base, lock_call, moves_base, signal_call, unlock_call, wait_call}, declared.given.GivenUp.GivenUp, declared.given.GivenUp.TheVariants.{Emptied, Released, Replaced}, declared.variable.Variable.Variable}
 pub use Rattle.sharc_word.specs.{declared.step.TheConstants.THREADS, declared.step.WordEvent.WordEvent, declared.step.WordStep.WordStep}
 pub use Rattle.sharc_heap.specs.Count.{test_of}
 pub use Rattle.sharc_code.specs.{Arithmetic.{computed, int_of, word_of}, Layout.{Fits, cell_word, count_word, granule_at, granules, length_word, words_of}, Machine.{Machine, act, function_of, instr_at, int, no_function, ref}, Paced.paced_in, Path.{CodePath, after, begun, machine_after, may_go, most_refs}, Ranges.{IsInGlobal, first_place as first_cell_of}, Runs.{Answered, Global, IsRun, Said, Turn, result_of, said_by, step_of, turns_of}, Says.{global_cell, in_start, kind_of, lock_through, made_cell, mode_of, no_global, no_place, place_at, reference, said, speaks_of}, Whole.{CheckedRun, Erase, bounds, one_thread, place_after}, declared.code.Code.Code, declared.code.Function.{Function as Row}, declared.code.GlobalCells.GlobalCells, declared.code.Parameter.Parameter, declared.code.PlaceMode.PlaceMode, declared.code.PlaceMode.TheVariants.{Dynamic, LockedGlobal, LockedLoaded, LockedSibling, LockedThrough, Private, Racy}, declared.code.SourcePlace.SourcePlace, declared.code.Text.Text, declared.instr.Cell.Cell, declared.instr.Cell.TheVariants.{GlobalAt, Object as InObject, ObjectAt}, declared.instr.Instr.Instr, declared.instr.Instr.TheVariants.{Call, ChkLock, ChkLockLoaded, ChkRead, ChkWrite, CondWait, Exchange, Exit, Free, Load, LoadRef, Lower, MoveReference, RaiseLoaded, Start, Store, TakeCell, TestSole}, declared.instr.Operator.Operator, declared.instr.Register.Register, declared.instr.Width.Width, declared.instr.Width.TheVariants.Int, declared.shape.Shape.Shape, declared.state.Stage.Stage, declared.state.Stage.TheVariants.{Empties, Enters, FreeClears, FreeLooks, Links, Lowers, Rests, Uncounts}, declared.state.Stop.Stop, declared.state.Stop.TheVariants.{Conflict, NoLock, NotSole, Trap as Trapped}, declared.state.TheConstants.FRAMES, declared.state.TurnState.TurnState, declared.state.TurnState.TheVariants.{Ended, Runs, Stopped}}
@@ -19,4 +19,4 @@ pub use Rattle.sharc_invariant.specs.{Granules.{one, sum_to}, Labels.{Closed, Ga
 pub use Rattle.sharc_accepted_laws.specs.{Pointers.{GlobalsPoint, IsPointerInTable, PointersAreOfGlobals}, TargetLaws.HasTables, Targets.targets_of}
 pub use Rattle.sharc_history_laws.specs.{Followed.{ChecksAreFollowed, IsFollowed, IsLocked}, History.history_of, Kept.{GlobalPointersAreKept, Grows, MadePointersAreKept, OthersAreInitial}, Made.PointersAreMade, Paths.PathsAreConsistent, Reports.{CastReportsShow, FindsOthers, InArgument, InCell, InHand, InLog, InRegister, OtherReference}, Seen.{IsGivenTo, RunsBegin}, SeenCells.{CellsAreSeen, IsBeingFreed, is_clearing}, Starts.{IsOfMain, IsSpawnedByCode, IsStartedBy}, Stores.BeginsWith}
 pub use Rattle.sharc_compile_laws.specs.{Started.HasThread, Threads.TellsIn}
-pub use Rattle.sharc_wants_laws.specs.{Alone.{Passes, objects_there, tested_object}, Beginning.ThreadsHaveBegun, Cause.{NothingIsInFlight, ShowsReference}, Cells.{CellsSee, IsSeenInCell, in_freed, in_global, in_made}, Elsewhere.{ArgumentsSee, LogsSee}, Emptying.{IsEmptying, is_emptying}, Freeing.{EmptiersTookLast, IsBeingTaken, LastTakersFree, TakenAreBeingTaken, TakesLast}, Hands.{FreesEmpty, HandsFly}, Held.{HeldAreHeldOn, released, releases}, Holding.{IsAccounted, IsHolding, IsHoldingIn, IsHoldingThere, IsLowered, IsTested, PathsHold, lowered_of}, InFlight.{IsInFlight, IsPastEvents, is_emptied, is_given, is_replaced}, Only.{ArgumentsHoldNone, CellsHoldNone, FreedAreTaken, MutexesHoldNone, ThreadsHoldNone}, Registered.{HoldsRegistered, IsLoadedHere, IsPlaceOf, IsRegistered}, Seeing.{CastersHold, TestersGive, ThreadsSee}, Silent.{HasNothing, SilentHaveNothing}, Sole.{AreQuiet, HaveBegun, IsSeen, NoneIsInFlight, RegistersAreSeen}, Waits.CodeWaits, Wants.{IsNotThere, IsThere, IsThereIn, IsWhere, PathsWant, StopsOrWantsUnder, WantsAccess, WantsAct, WantsBy, access_at, access_tested}}
+pub use Rattle.sharc_wants_laws.specs.{Alone.{Passes, objects_there, tested_object}, Cause.{NothingIsInFlight, ShowsReference}, Cells.{CellsSee, IsSeenInCell, in_freed, in_global, in_made}, Elsewhere.{ArgumentsSee, LogsSee}, Emptying.{IsEmptying, is_emptying}, Freeing.{EmptiersTookLast, IsBeingTaken, LastTakersFree, TakenAreBeingTaken, TakesLast}, Hands.{FreesEmpty, HandsFly}, Held.{HeldAreHeldOn, released, releases}, Holding.{IsAccounted, IsHolding, IsHoldingIn, IsHoldingThere, IsLowered, IsTested, PathsHold, lowered_of}, InFlight.{IsInFlight, IsPastEvents, is_emptied, is_given, is_replaced}, Only.{ArgumentsHoldNone, CellsHoldNone, FreedAreTaken, MutexesHoldNone, ThreadsHoldNone}, Registered.{HoldsRegistered, IsLoadedHere, IsPlaceOf, IsRegistered}, Seeing.{CastersHold, TestersGive, ThreadsSee}, Silent.{HasNothing, SilentHaveNothing}, Sole.{AreQuiet, HaveBegun, IsSeen, NoneIsInFlight, RegistersAreSeen}, Waits.CodeWaits, Wants.{IsNotThere, IsThere, IsThereIn, IsWhere, PathsWant, StopsOrWantsUnder, WantsAccess, WantsAct, WantsBy, access_at, access_tested}, Beginning.{BeginsByRight, ThreadsHaveBegun}}

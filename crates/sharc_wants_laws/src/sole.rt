@@ -1,7 +1,8 @@
 //! The laws, each the contract of a function that calls at most the laws that it joins.
 
 ghost use Rattle.sharc_compile_laws.specs.Paths.{OfTyped};
-ghost use Rattle.sharc_wants_laws.specs.{Alone.PassedAreAlone, Cause.CastReportsShowCause, Beginning.ThreadsHaveBegun};
+ghost use Rattle.sharc_wants_laws.specs.{Alone.PassedAreAlone, Cause.CastReportsShowCause};
+ghost use Rattle.sharc_wants_laws.specs.Beginning.{ThreadsBeginByRight, ThreadsHaveBegun};
 ghost use Rattle.sharc_wants_laws.specs.{Elsewhere.{ArgumentsSee, LogsSee}, Hands.{FreesEmpty, HandsFly}};
 ghost use Rattle.sharc_wants_laws.specs.{Cells.CellsSee, Holding.{PathsHold, ThreadsHold}};
 ghost use Rattle.sharc_wants_laws.specs.Only.{
@@ -22,7 +23,7 @@ use sharc_code::run_laws;
 use sharc_compile::{paths_law, run_paths_law};
 use sharc_compile_laws::flattened::typed_counts;
 use sharc_compile_laws::{
-    functions_are_named, spawned_are_threads, threads_may_start, typed_threads_tell,
+    functions_are_named, own_are_told, spawned_are_threads, threads_may_start, typed_threads_tell,
 };
 use sharc_ctype_laws::laws::each_names_itself;
 use sharc_flat::form_laws::path_laws;
@@ -56,6 +57,7 @@ pub fn thread_holds()
 {
     path_holds();
     run_paths_law();
+    own_are_told();
 }
 
 /// So what the registers of a thread refer to is among the references of its history, where no reference to it is in
@@ -83,6 +85,7 @@ pub fn held_registered()
     each_names_itself();
     paths_law();
     run_paths_law();
+    own_are_told();
     framed_law();
     path_laws();
 }
@@ -143,17 +146,24 @@ pub fn registers_seen()
     casters_hold();
 }
 
-/// A thread of a checked run of typed code that has told an event has begun with a function that may be started.
-pub fn threads_have_begun()
-    ensures { OfTyped ThreadsHaveBegun }
+/// A thread of a checked run of typed code begins with a function that may be started: with main, or by a Spawn before.
+pub fn threads_begin_by_right()
+    ensures { OfTyped ThreadsBeginByRight }
 {
     each_names_itself();
     functions_are_named();
     spawned_are_threads();
     threads_may_start();
+    starts_law();
+}
+
+/// So one that has told an event has begun with a function that may be started.
+pub fn threads_have_begun()
+    ensures { OfTyped ThreadsHaveBegun }
+{
+    threads_begin_by_right();
     typed_threads_tell();
     history_paths_law();
-    starts_law();
 }
 
 /// One that has told no event has nothing in its registers or in hand.
@@ -162,6 +172,7 @@ pub fn silent_have_nothing()
 {
     path_holds();
     run_paths_law();
+    own_are_told();
     typed_is_framed();
     framed_law();
 }

@@ -5,7 +5,7 @@ ghost use Rattle.sharc_wants_laws.specs.Wants.{PathsWant, ThreadsWant};
 
 use sharc_compile::{paths_law, run_paths_law};
 use sharc_compile_laws::flattened::typed_counts;
-use sharc_compile_laws::functions_are_named;
+use sharc_compile_laws::{functions_are_named, own_are_told};
 use sharc_flat::form_laws::path_laws;
 use sharc_flat_laws::laws::{typed_asks_the_same, typed_is_framed};
 use sharc_guard::{framed_law, log_law};
@@ -34,4 +34,5 @@ pub fn thread_wants()
 {
     path_wants();
     run_paths_law();
+    own_are_told();
 }

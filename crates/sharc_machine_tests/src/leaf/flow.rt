@@ -3,6 +3,7 @@
 ghost use Rattle.std.specs.{Prelude.IsTrue, List.All};
 ghost use Rattle.sharc_graph.specs.Paths.{IsWithin};
 
+use crate::leaf::random::random;
 use sharc_graph::{
     Edge, Link, NodeFinding, PositionKind, lead_down, least_assignment, least_by_rounds, make_equal,
 };
@@ -71,14 +72,6 @@ fn kinds_of_sources(rt: HostRuntime) -> Result<(), Fail> {
     ]?;
     assert!(rt; findings == want);
     Ok(())
-}
-
-// The next of some numbers that look random, below this one.
-fn random(state: &mut u64, below: u32) -> u32 {
-    *state = state
-        .wrapping_mul(6364136223846793005)
-        .wrapping_add(1442695040888963407);
-    ((*state >> 33) % u64::from(below.max(1))) as u32
 }
 
 fn random_place(state: &mut u64) -> PositionKind {

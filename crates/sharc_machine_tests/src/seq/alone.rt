@@ -1,6 +1,10 @@
 //! One thread: arithmetic, calls, cells, objects, counts.
 
 use crate::seq::bench::{LIMIT, run};
+use sharc_code::Operator::{
+    Add, And, AtLeast, AtMost, Divide, Equal, Greater, Less, Multiply, NotEqual, Or, Remainder,
+    ShiftLeft, ShiftRight, Subtract, Xor,
+};
 use sharc_code::{Cell, Instr, Operator, Width};
 use sharc_cpu::{Pause, Stop};
 use sharc_tree::trap::Trap;
@@ -31,188 +35,82 @@ fn computed(
     }
 }
 
-// The operator makes this of two numbers as an `int`, and that as a `long`.
-fn computes(
-    rt: &impl Abort,
-    alloc: Global,
-    operator: Operator,
-    numbers: (i64, i64),
-    int: Result<i64, Trap>,
-    long: Result<i64, Trap>,
-) -> Result<(), Fail> {
-    let (left, right) = numbers;
-    let compute = Instr::ComputeInt(operator, 2, 0, 1, 5);
-    let answer = computed(alloc, compute, left, right)?;
-    assert_eq!(rt; answer, Some(int), "int, of {left} and {right}");
-    let compute = Instr::ComputeLong(operator, 2, 0, 1, 5);
-    let answer = computed(alloc, compute, left, right)?;
-    assert_eq!(rt; answer, Some(long), "long, of {left} and {right}");
+/// An operator, two numbers, and what it makes of them as an `int` and as a `long`.
+type Computed = (Operator, (i64, i64), Result<i64, Trap>, Result<i64, Trap>);
+
+// The operators make this of their numbers.
+fn compute_all(rt: &impl Abort, alloc: Global, table: &[Computed]) -> Result<(), Fail> {
+    for row in table {
+        let (operator, (left, right), int, long) = *row;
+        let compute = Instr::ComputeInt(operator, 2, 0, 1, 5);
+        let answer = computed(alloc, compute, left, right)?;
+        assert_eq!(rt; answer, Some(int), "int, of {left} and {right}");
+        let compute = Instr::ComputeLong(operator, 2, 0, 1, 5);
+        let answer = computed(alloc, compute, left, right)?;
+        assert_eq!(rt; answer, Some(long), "long, of {left} and {right}");
+    }
     Ok(())
 }
+
+static SUMS: [Computed; 5] = [
+    (Add, (40, 2), Ok(42), Ok(42)),
+    (Add, (2147483647, 1), Err(OutOfRange), Ok(2147483648)),
+    (Subtract, (-2147483648, 1), Err(OutOfRange), Ok(-2147483649)),
+    (Multiply, (65536, 32768), Err(OutOfRange), Ok(2147483648)),
+    (Multiply, (i64::MAX, 2), Err(OutOfRange), Err(OutOfRange)),
+];
 
 #[test]
 fn sums_and_products(rt: HostRuntime) -> Result<(), Fail> {
-    let alloc = rt.alloc();
-    computes(&rt, alloc, Operator::Add, (40, 2), Ok(42), Ok(42))?;
-    computes(
-        &rt,
-        alloc,
-        Operator::Add,
-        (2147483647, 1),
-        Err(OutOfRange),
-        Ok(2147483648),
-    )?;
-    computes(
-        &rt,
-        alloc,
-        Operator::Subtract,
-        (-2147483648, 1),
-        Err(OutOfRange),
-        Ok(-2147483649),
-    )?;
-    computes(
-        &rt,
-        alloc,
-        Operator::Multiply,
-        (65536, 32768),
-        Err(OutOfRange),
-        Ok(2147483648),
-    )?;
-    computes(
-        &rt,
-        alloc,
-        Operator::Multiply,
-        (i64::MAX, 2),
-        Err(OutOfRange),
-        Err(OutOfRange),
-    )?;
-    Ok(())
+    compute_all(&rt, rt.alloc(), &SUMS)
 }
+
+static QUOTIENTS: [Computed; 7] = [
+    (Divide, (-7, 2), Ok(-3), Ok(-3)),
+    (Divide, (7, 0), Err(DivisionByZero), Err(DivisionByZero)),
+    (Divide, (-2147483648, -1), Err(OutOfRange), Ok(2147483648)),
+    (Divide, (i64::MIN, -1), Err(OutOfRange), Err(OutOfRange)),
+    (Remainder, (-7, 2), Ok(-1), Ok(-1)),
+    (Remainder, (7, 0), Err(DivisionByZero), Err(DivisionByZero)),
+    (Remainder, (i64::MIN, -1), Err(OutOfRange), Err(OutOfRange)),
+];
 
 #[test]
 fn quotients(rt: HostRuntime) -> Result<(), Fail> {
-    let alloc = rt.alloc();
-    computes(&rt, alloc, Operator::Divide, (-7, 2), Ok(-3), Ok(-3))?;
-    computes(
-        &rt,
-        alloc,
-        Operator::Divide,
-        (7, 0),
-        Err(DivisionByZero),
-        Err(DivisionByZero),
-    )?;
-    computes(
-        &rt,
-        alloc,
-        Operator::Divide,
-        (-2147483648, -1),
-        Err(OutOfRange),
-        Ok(2147483648),
-    )?;
-    computes(
-        &rt,
-        alloc,
-        Operator::Divide,
-        (i64::MIN, -1),
-        Err(OutOfRange),
-        Err(OutOfRange),
-    )?;
-    computes(&rt, alloc, Operator::Remainder, (-7, 2), Ok(-1), Ok(-1))?;
-    computes(
-        &rt,
-        alloc,
-        Operator::Remainder,
-        (7, 0),
-        Err(DivisionByZero),
-        Err(DivisionByZero),
-    )?;
-    computes(
-        &rt,
-        alloc,
-        Operator::Remainder,
-        (i64::MIN, -1),
-        Err(OutOfRange),
-        Err(OutOfRange),
-    )?;
-    Ok(())
+    compute_all(&rt, rt.alloc(), &QUOTIENTS)
 }
+
+static SHIFTS: [Computed; 8] = [
+    (ShiftLeft, (1, 31), Err(OutOfRange), Ok(2147483648)),
+    (ShiftLeft, (1, 32), Err(OutOfRange), Ok(4294967296)),
+    (ShiftLeft, (-1, 63), Err(OutOfRange), Ok(i64::MIN)),
+    (ShiftLeft, (1, 63), Err(OutOfRange), Err(OutOfRange)),
+    (ShiftLeft, (1, -1), Err(OutOfRange), Err(OutOfRange)),
+    (ShiftLeft, (-1, 31), Ok(-2147483648), Ok(-2147483648)),
+    (ShiftRight, (-8, 1), Ok(-4), Ok(-4)),
+    (ShiftRight, (8, 64), Err(OutOfRange), Err(OutOfRange)),
+];
 
 #[test]
 fn shifts(rt: HostRuntime) -> Result<(), Fail> {
-    let alloc = rt.alloc();
-    computes(
-        &rt,
-        alloc,
-        Operator::ShiftLeft,
-        (1, 31),
-        Err(OutOfRange),
-        Ok(2147483648),
-    )?;
-    computes(
-        &rt,
-        alloc,
-        Operator::ShiftLeft,
-        (1, 32),
-        Err(OutOfRange),
-        Ok(4294967296),
-    )?;
-    computes(
-        &rt,
-        alloc,
-        Operator::ShiftLeft,
-        (-1, 63),
-        Err(OutOfRange),
-        Ok(i64::MIN),
-    )?;
-    computes(
-        &rt,
-        alloc,
-        Operator::ShiftLeft,
-        (1, 63),
-        Err(OutOfRange),
-        Err(OutOfRange),
-    )?;
-    computes(
-        &rt,
-        alloc,
-        Operator::ShiftLeft,
-        (1, -1),
-        Err(OutOfRange),
-        Err(OutOfRange),
-    )?;
-    computes(
-        &rt,
-        alloc,
-        Operator::ShiftLeft,
-        (-1, 31),
-        Ok(-2147483648),
-        Ok(-2147483648),
-    )?;
-    computes(&rt, alloc, Operator::ShiftRight, (-8, 1), Ok(-4), Ok(-4))?;
-    computes(
-        &rt,
-        alloc,
-        Operator::ShiftRight,
-        (8, 64),
-        Err(OutOfRange),
-        Err(OutOfRange),
-    )?;
-    Ok(())
+    compute_all(&rt, rt.alloc(), &SHIFTS)
 }
+
+static BITS: [Computed; 9] = [
+    (And, (12, 10), Ok(8), Ok(8)),
+    (Or, (12, 10), Ok(14), Ok(14)),
+    (Xor, (12, 10), Ok(6), Ok(6)),
+    (Equal, (3, 3), Ok(1), Ok(1)),
+    (NotEqual, (3, 3), Ok(0), Ok(0)),
+    (Less, (-1, 0), Ok(1), Ok(1)),
+    (Greater, (-1, 0), Ok(0), Ok(0)),
+    (AtMost, (5, 5), Ok(1), Ok(1)),
+    (AtLeast, (4, 5), Ok(0), Ok(0)),
+];
 
 #[test]
 fn bits_and_comparisons(rt: HostRuntime) -> Result<(), Fail> {
-    let alloc = rt.alloc();
-    computes(&rt, alloc, Operator::And, (12, 10), Ok(8), Ok(8))?;
-    computes(&rt, alloc, Operator::Or, (12, 10), Ok(14), Ok(14))?;
-    computes(&rt, alloc, Operator::Xor, (12, 10), Ok(6), Ok(6))?;
-    computes(&rt, alloc, Operator::Equal, (3, 3), Ok(1), Ok(1))?;
-    computes(&rt, alloc, Operator::NotEqual, (3, 3), Ok(0), Ok(0))?;
-    computes(&rt, alloc, Operator::Less, (-1, 0), Ok(1), Ok(1))?;
-    computes(&rt, alloc, Operator::Greater, (-1, 0), Ok(0), Ok(0))?;
-    computes(&rt, alloc, Operator::AtMost, (5, 5), Ok(1), Ok(1))?;
-    computes(&rt, alloc, Operator::AtLeast, (4, 5), Ok(0), Ok(0))?;
-    Ok(())
+    compute_all(&rt, rt.alloc(), &BITS)
 }
 
 // 5 + 4 + .. + 1 by a loop; then the negative, its complement and its not.
@@ -223,8 +121,8 @@ fn counts_in_a_loop(rt: HostRuntime) -> Result<(), Fail> {
         Instr::Constant(1, 0),
         Instr::Constant(2, 1),
         Instr::JumpIfZero(0, 9),
-        Instr::ComputeInt(Operator::Add, 1, 1, 0, 0),
-        Instr::ComputeInt(Operator::Subtract, 0, 0, 2, 0),
+        Instr::ComputeInt(Add, 1, 1, 0, 0),
+        Instr::ComputeInt(Subtract, 0, 0, 2, 0),
         Instr::Jump(5),
         Instr::NegateInt(3, 1, 0),
         Instr::Print(3, 0),

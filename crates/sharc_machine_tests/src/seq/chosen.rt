@@ -312,23 +312,10 @@ fn nobody_wakes(rt: HostRuntime) -> Result<(), Fail> {
         Instr::CondWait(B, 7),
         Instr::Return(9),
     ];
-    let ran = run(
-        rt.alloc(),
-        &body,
-        &[function(6, Parameter::None)],
-        Choice::First,
-        LIMIT,
-        b"",
-    )?;
-    assert_eq!(rt; ran.end, End::Stuck);
-    let ran = run(
-        rt.alloc(),
-        &body,
-        &[function(6, Parameter::None)],
-        Choice::Last,
-        LIMIT,
-        b"",
-    )?;
-    assert_eq!(rt; ran.end, End::Stuck);
+    let others = [function(6, Parameter::None)];
+    for choice in &[Choice::First, Choice::Last] {
+        let ran = run(rt.alloc(), &body, &others, *choice, LIMIT, b"")?;
+        assert_eq!(rt; ran.end, End::Stuck);
+    }
     Ok(())
 }

@@ -1,11 +1,12 @@
 //! Two threads, a turn of each in turn.
 
 use crate::code::function;
-use crate::seq::bench::{LIMIT, run};
+use crate::seq::bench::{LIMIT, Seen, run};
 use sharc_code::{Cell, Instr, Parameter, Register};
 use sharc_cpu::{Pause, Stop, Wait};
 use sharc_heap::Kind;
 use sharc_tree::trap::Trap;
+use std::alloc::{AllocError, Global};
 use std::process::Abort;
 use std::test::Fail;
 
@@ -125,27 +126,31 @@ fn waits_and_signals(rt: HostRuntime) -> Result<(), Fail> {
     Ok(())
 }
 
-// `main` has written the value when the thread's check finds it.
-#[test]
-fn conflicts(rt: HostRuntime) -> Result<(), Fail> {
+// `main` makes four turns and returns; the thread, at place 7, reads the value.
+fn with_reader(alloc: Global, main: &[Instr; 4]) -> Result<Seen, AllocError> {
     let body = [
-        Instr::ChkWrite(VALUE, 3),
-        Instr::Store(0, VALUE, 3),
-        Instr::Spawn(1, 1, Register::Int(0), 4),
-        Instr::Join(1, 5),
+        main[0],
+        main[1],
+        main[2],
+        main[3],
         Instr::Return(6),
-        // The thread, at place 7.
         Instr::ChkRead(VALUE, 9),
         Instr::Load(0, VALUE, 9),
         Instr::Return(8),
     ];
-    let ran = run(
-        rt.alloc(),
-        &body,
-        &[function(7, Parameter::None)],
-        60,
-        LIMIT,
-    )?;
+    run(alloc, &body, &[function(7, Parameter::None)], 60, LIMIT)
+}
+
+// `main` has written the value when the thread's check finds it.
+#[test]
+fn conflicts(rt: HostRuntime) -> Result<(), Fail> {
+    let main = [
+        Instr::ChkWrite(VALUE, 3),
+        Instr::Store(0, VALUE, 3),
+        Instr::Spawn(1, 1, Register::Int(0), 4),
+        Instr::Join(1, 5),
+    ];
+    let ran = with_reader(rt.alloc(), &main)?;
     assert_eq!(rt; ran.answers, (Pause::Blocked, Pause::Stopped));
     let stop = match ran.stops.1 {
         Some(Stop::Conflict(at)) => Some((at.kind, at.site, at.granule, at.epoch, at.old)),
@@ -158,24 +163,13 @@ fn conflicts(rt: HostRuntime) -> Result<(), Fail> {
 // The thread has read the value and is gone, so `main` may write it.
 #[test]
 fn withdraws(rt: HostRuntime) -> Result<(), Fail> {
-    let body = [
+    let main = [
         Instr::Spawn(1, 1, Register::Int(0), 4),
         Instr::Join(1, 5),
         Instr::ChkWrite(VALUE, 3),
         Instr::Store(0, VALUE, 3),
-        Instr::Return(6),
-        // The thread, at place 7.
-        Instr::ChkRead(VALUE, 9),
-        Instr::Load(0, VALUE, 9),
-        Instr::Return(8),
     ];
-    let ran = run(
-        rt.alloc(),
-        &body,
-        &[function(7, Parameter::None)],
-        60,
-        LIMIT,
-    )?;
+    let ran = with_reader(rt.alloc(), &main)?;
     assert_eq!(rt; ran.answers, (Pause::Ended, Pause::Ended));
     Ok(())
 }

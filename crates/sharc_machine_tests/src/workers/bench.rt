@@ -4,7 +4,7 @@ ghost use Rattle.std.specs.Prelude.{◌≤◌, ◌<◌};
 ghost use Rattle.sharc_code.specs.Layout.{Fits};
 
 use crate::code::{Printed, add_prints, code, shape, trap_of};
-use sharc_code::{Cell, Code, Function, Instr, Shape};
+use sharc_code::{Cell, Code, Function, Instr, Register, Shape};
 use sharc_cpu::Thread;
 use sharc_record::{Recorded, record_run};
 use sharc_rounds::{End, Gate, run_rounds};
@@ -14,6 +14,18 @@ use sharc_tree::trap::Trap;
 use std::alloc::{AllocError, Global};
 use std::sync::Wait;
 use std::thread::Threads;
+
+/// `main` starts two threads, which end at once, and joins both.
+pub const BOTH: [Instr; 7] = [
+    Instr::Spawn(1, 1, Register::Int(0), 3),
+    Instr::Spawn(2, 1, Register::Int(0), 3),
+    Instr::Join(1, 4),
+    Instr::Join(2, 4),
+    Instr::Return(6),
+    // The thread, at place 7.
+    Instr::Return(8),
+    Instr::Exit,
+];
 
 /// More events than any thread here makes.
 pub const LIMIT: u64 = 10_000_000;

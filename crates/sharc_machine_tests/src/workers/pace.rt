@@ -3,7 +3,7 @@
 ghost use Rattle.std.specs.Prelude.{◌<◌};
 
 use crate::code::function;
-use crate::workers::bench::{A, LIMIT, VALUE, in_rounds};
+use crate::workers::bench::{A, BOTH, LIMIT, VALUE, in_rounds};
 use crate::workers::gates::LOOKS;
 use crate::workers::starts::{keeps, own_number};
 use sharc_code::{Instr, Parameter, Register};
@@ -35,18 +35,6 @@ const LOOPS: [Instr; 21] = [
     Instr::Constant(1, 12),
     Instr::Constant(1, 13),
     Instr::Jump(7),
-    Instr::Exit,
-];
-
-// The same two threads, which end at once.
-const SHORT: [Instr; 7] = [
-    Instr::Spawn(1, 1, Register::Int(0), 3),
-    Instr::Spawn(2, 1, Register::Int(0), 3),
-    Instr::Join(1, 4),
-    Instr::Join(2, 4),
-    Instr::Return(6),
-    // The thread, at place 7.
-    Instr::Return(8),
     Instr::Exit,
 ];
 
@@ -155,7 +143,7 @@ fn the_caller_makes_the_first_round(rt: HostRuntime) -> Result<(), Fail> {
     let others = [function(7, Parameter::None)];
     for workers in [2, 4, 16] {
         let gate = Timed::new(&rt);
-        let ran = in_rounds(&rt, rt.alloc(), &SHORT, &others, workers, LIMIT, &gate)?;
+        let ran = in_rounds(&rt, rt.alloc(), &BOTH, &others, workers, LIMIT, &gate)?;
         assert_eq!(rt; ran.end, End::AllDone);
         assert_eq!(rt; gate.counts().1, 0, "{workers}");
     }

@@ -1,7 +1,7 @@
 //! In how many threads of the system the steps of a run are made, and how large a place of the table of threads is.
 
 use crate::code::function;
-use crate::workers::bench::{LIMIT, in_rounds};
+use crate::workers::bench::{BOTH, LIMIT, in_rounds};
 use sharc_code::{Instr, Parameter, Register};
 use sharc_cpu::Thread;
 use sharc_rounds::{End, Gate};
@@ -84,18 +84,6 @@ const ONE_BY_ONE: [Instr; 7] = [
     Instr::Join(1, 4),
     Instr::Spawn(1, 1, Register::Int(0), 3),
     Instr::Join(1, 4),
-    Instr::Return(6),
-    // The thread, at place 7.
-    Instr::Return(8),
-    Instr::Exit,
-];
-
-// `main` starts two threads and joins both.
-const BOTH: [Instr; 7] = [
-    Instr::Spawn(1, 1, Register::Int(0), 3),
-    Instr::Spawn(2, 1, Register::Int(0), 3),
-    Instr::Join(1, 4),
-    Instr::Join(2, 4),
     Instr::Return(6),
     // The thread, at place 7.
     Instr::Return(8),

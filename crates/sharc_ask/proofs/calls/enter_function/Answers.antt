@@ -42,11 +42,10 @@ returns-in_err-enter-in-Some-clause-moves c = λ m.
     let k = view_state c.args.st.now in
     let mid = view_state c.push_frame.new.st in
     let k1 = view_state c.begin_parameters.new.st in
-    let k2 = view_state c.enter.new.st in
     let stack1 = stack_of c.push.new.stack in
     let run = gives as_left (run_function (calls m c.args.frames) m f c.args.values.now) in
     let moved : c.pointers_passed.result ≡ pointers_passed f = c.pointers_passed.ensures.count ∙ ap (λ z. count_by (λ (d : Declaration). is_pointer (declared_kind d.written)) z) c.as_slice.ensures in
     let here : WasKept (pointers_passed f) k mid (Some (kept.frame.variables.items, kept.frame.temporaries.items, kept.below.items)) = subst (λ z. WasKept z k mid (Some (kept.frame.variables.items, kept.frame.temporaries.items, kept.below.items))) moved c.in-Some.ensures.kept in
     let began : Does {A = Unit {0}} mid (Ok c.in_ok-begin_parameters-in-Some.field-0) k1 (parameters_begin f.parameters c.args.values.now) = subst (λ z. Does {A = Unit {0}} mid (Ok c.in_ok-begin_parameters-in-Some.field-0) k1 (parameters_begin z c.args.values.now)) c.as_slice-in-Some.ensures c.in_ok-begin_parameters-in-Some.ensures.does in
-    subst (λ r. Moves m k (stack_of c.args.stack.now) r k2 stack1 run) (sym over)
-    (enter_ends m c.args.frames f c.args.values.now k mid k1 k2 kept.frame.variables.items kept.frame.temporaries.items kept.below.items (stack_of c.args.stack.now) stack1 end c.in_ok-begin_parameters-in-Some.field-0 here began c.in_err-enter-in-Some.ensures.does)
+    subst (λ r. Moves m k (stack_of c.args.stack.now) r (view_state c.enter.new.st) stack1 run) (sym over)
+    (enter_ends m c.args.frames f c.args.values.now k mid k1 (view_state c.enter.new.st) kept.frame.variables.items kept.frame.temporaries.items kept.below.items (stack_of c.args.stack.now) stack1 end c.in_ok-begin_parameters-in-Some.field-0 here began c.in_err-enter-in-Some.ensures.does)

@@ -7,14 +7,11 @@ returns-clause-moves c =
     let n = c.args.frames in
     let p = c.args.passing in
     let list = p.arguments.now in
-    let first = c.first-item.result in
     let more = take (length list - 1) (drop 1 list) in
-    let same : list ≡ first ∷ more = first_and_rest list first c.in-len1-up.len_at_least c.first-item.is in
-    let k = view_state c.args.st.now in
-    let k1 = view_state c.begin_eval.new.st in
+    let same : list ≡ c.first-item.result ∷ more = first_and_rest list c.first-item.result c.in-len1-up.len_at_least c.first-item.is in
     let stack = stack_of c.args.stack.now in
-    subst (λ (l : List Expr). Moves m k stack (Ok (record { frames = n; plan = c.in_ok-plan-in-len1-up.plan })) k1 (stack_of c.push-in-len1-up.new.stack) (awaits (calls m n) m p.call p.mark (declared_kinds p.parameters.now) (view_arguments l) p.values.items)) (sym same)
-    (more_moves m n p.call p.mark p.parameters c.rest_of.result _ _ k k1 stack (stack_of c.push.new.stack) (stack_of c.push-in-len1-up.new.stack) c.in_ok-plan-in-len1-up.plan c.rest_of.ensures refl refl refl c.in_ok-push-in-len1-up.ensures.pushed c.in_ok-push-in-len1-up-2.ensures.pushed (c.in_ok-plan-in-len1-up.ensures.means (calls m n)))
+    subst (λ (l : List Expr). Moves m (view_state c.args.st.now) stack (Ok (record { frames = n; plan = c.in_ok-plan-in-len1-up.plan })) (view_state c.begin_eval.new.st) (stack_of c.push-in-len1-up.new.stack) (awaits (calls m n) m p.call p.mark (declared_kinds p.parameters.now) (view_arguments l) p.values.items)) (sym same)
+    (more_moves m n p.call p.mark p.parameters c.rest_of.result _ _ (view_state c.args.st.now) (view_state c.begin_eval.new.st) stack (stack_of c.push.new.stack) (stack_of c.push-in-len1-up.new.stack) c.in_ok-plan-in-len1-up.plan c.rest_of.ensures refl refl refl c.in_ok-push-in-len1-up.ensures.pushed c.in_ok-push-in-len1-up-2.ensures.pushed (c.in_ok-plan-in-len1-up.ensures.means (calls m n)))
 
 pub returns-in-empty-clause-moves : goal.returns-in-empty-clause-moves
 returns-in-empty-clause-moves c =

@@ -7,9 +7,7 @@ returns-in-Identifier-clause-means c = λ on_call.
     let w = c.in-Identifier in
     let e = view_expr c.args.expr.now in
     let run = named_value m.typed (cell_at m e) w.name.site (named_at m.typed w.name.site.token) in
-    let k = view_state c.args.st.now in
-    let k1 = view_state c.named_value.new.st in
-    same_plans on_call m k k1 c.done_number.result (inside (gives number (eval on_call m e))) (gives number run) (λ s is. identifier_is on_call m e w.field-0 w.name (ap view_expr w.is) s) (c.done_number.ensures.means on_call m k k1 run c.named_value.ensures.does)
+    same_plans on_call m (view_state c.args.st.now) (view_state c.named_value.new.st) c.done_number.result (inside (gives number (eval on_call m e))) (gives number run) (λ s is. identifier_is on_call m e w.field-0 w.name (ap view_expr w.is) s) (c.done_number.ensures.means on_call m (view_state c.args.st.now) (view_state c.named_value.new.st) run c.named_value.ensures.does)
 
 pub call_plan-requires : goal.call_plan-requires
 call_plan-requires c =

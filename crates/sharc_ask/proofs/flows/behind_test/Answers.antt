@@ -10,6 +10,4 @@ returns-then-goes_on-clause-means c = λ on_call m.
 
 pub returns-then-goes_on-clause-begins : goal.returns-then-goes_on-clause-begins
 returns-then-goes_on-clause-begins c =
-    let after = c.begin_statement.new.st.fuel in
-    let before = c.args.st.now.fuel in
-    IfOk-weaker c.begin_statement.result (λ p. 64 * after + size p + 45 ≤ 64 * before + 17) (Begins 1 before after) (λ p h. record { falls = omega (arith, h) }) c.begin_statement.ensures.begins
+    IfOk-weaker c.begin_statement.result (λ p. 64 * c.begin_statement.new.st.fuel + size p + 45 ≤ 64 * c.args.st.now.fuel + 17) (Begins 1 c.args.st.now.fuel c.begin_statement.new.st.fuel) (λ p h. record { falls = omega (arith, h) }) c.begin_statement.ensures.begins

@@ -6,10 +6,8 @@ returns-then-number-eq0-clause-means c = λ on_call m. turns_none on_call m c.ar
 
 pub returns-clause-means : goal.returns-clause-means
 returns-clause-means c = λ on_call m s is.
-    let l = c.args.l in
-    let n = c.args.number in
     record {
       state = s;
-      is = turns_begin on_call m l n s c.if-number-eq0.false ∙ ap (λ o. then_on (gives test (done_test on_call m o) s) (λ v. gives flow (tested_done on_call m l (n - 1) (test_in v)))) (sym c.test_of.ensures);
+      is = turns_begin on_call m c.args.l c.args.number s c.if-number-eq0.false ∙ ap (λ o. then_on (gives test (done_test on_call m o) s) (λ v. gives flow (tested_done on_call m c.args.l (c.args.number - 1) (test_in v)))) (sym c.test_of.ensures);
       looks = is;
     }

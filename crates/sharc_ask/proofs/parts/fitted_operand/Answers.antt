@@ -3,10 +3,9 @@ use Rattle.sharc_ask.proofs.parts.fitted_operand.Goals as goal
 
 pub returns-clause-does : goal.returns-clause-does
 returns-clause-does c =
-    let kind = view_kind c.args.kind in
     let same = to_z-of_z c.ranges.value in
-    fitted_goes (view_state c.args.st.now) (view_state c.operand_value.new.st) c.args.program.now.typed kind (view_expr c.args.expr.now) c.args.value _ c.fits.result c.span.result.first c.in_ok-unless.field-0 c.operand_value.result
-    (c.fits.ensures ∙ ap (fits kind) same) (ap (λ s. s.first) c.span.ensures) same c.in_ok-unless.ensures c.operand_value.ensures.does
+    fitted_goes (view_state c.args.st.now) (view_state c.operand_value.new.st) c.args.program.now.typed (view_kind c.args.kind) (view_expr c.args.expr.now) c.args.value _ c.fits.result c.span.result.first c.in_ok-unless.field-0 c.operand_value.result
+    (c.fits.ensures ∙ ap (fits (view_kind c.args.kind)) same) (ap (λ s. s.first) c.span.ensures) same c.in_ok-unless.ensures c.operand_value.ensures.does
 
 pub returns-in_err-unless-clause-does : goal.returns-in_err-unless-clause-does
 returns-in_err-unless-clause-does c =

@@ -6,16 +6,14 @@ returns-clause-means c = λ on_call.
     let m = c.args.program.now in
     let e = view_expr c.args.expr.now in
     let x = c.args.x in
-    let k = view_state c.args.st.now in
-    let k1 = view_state c.based.new.st in
     let fits = c.ranges.x in
     let site = c.args.site in
     let i = eval on_call m (view_expr c.args.index.now) in
-    same_plans on_call m k k1 c.then.result (gives place (behind_pointer m.typed site e x i))
+    same_plans on_call m (view_state c.args.st.now) (view_state c.based.new.st) c.then.result (gives place (behind_pointer m.typed site e x i))
     (step_then (based site (kind_at m.typed e) x)
     (gives number i >>= (λ v. gives place (element_behind m.typed site e x (number_in v)))))
     (λ s is. pointer_goes m.typed site e i x s)
-    (simp to_z-of_z at (c.then.ensures.means on_call m k k1 (based site (kind_at m.typed e) x) (simp to_z-of_z at c.based.ensures.does)))
+    (simp to_z-of_z at (c.then.ensures.means on_call m (view_state c.args.st.now) (view_state c.based.new.st) (based site (kind_at m.typed e) x) (simp to_z-of_z at c.based.ensures.does)))
 
 pub returns-clause-fits : goal.returns-clause-fits
 returns-clause-fits c = c.then.ensures.fits 2 (record { within = omega arith })

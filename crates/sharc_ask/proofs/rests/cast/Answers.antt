@@ -4,24 +4,19 @@ use Rattle.sharc_ask.proofs.rests.cast.Goals as goal
 pub returns-clause-means : goal.returns-clause-means
 returns-clause-means c = λ on_call.
     let m = c.args.program.now in
-    let e = view_expr c.args.expr.now in
-    let site = (span_of e).first in
-    let k = view_state c.args.st.now in
+    let site = (span_of (view_expr c.args.expr.now)).first in
     let k1 = view_state c.taken.new.st in
-    let first = ends_above c.args.mark (taken_from m.typed c.args.span.first site (cell_at m e) Cast (view_place c.args.place)) in
+    let first = ends_above c.args.mark (taken_from m.typed c.args.span.first site (cell_at m (view_expr c.args.expr.now)) Cast (view_place c.args.place)) in
     let rest : ℤ → Run ℤ = λ x. if is_null x then give x else cast_to m.typed site (pointed m (Some (cast_row m.typed c.args.span))) x in
     let k2 = view_state c.cast_unless_null.new.st in
     let same : to_z w64 (of_z w64 c.in_ok-value.value) ≡ c.in_ok-value.value = search rules in
-    number_then on_call m k k1 k2 c.in_ok-value.value c.done_number.result first rest c.in_ok-value.ensures.does (c.done_number.ensures.means on_call m k1 k2 (rest c.in_ok-value.value) (subst (λ z. Does k1 c.cast_unless_null.result k2 (rest z)) same c.cast_unless_null.ensures.does))
+    number_then on_call m (view_state c.args.st.now) k1 k2 c.in_ok-value.value c.done_number.result first rest c.in_ok-value.ensures.does (c.done_number.ensures.means on_call m k1 k2 (rest c.in_ok-value.value) (subst (λ z. Does k1 c.cast_unless_null.result k2 (rest z)) same c.cast_unless_null.ensures.does))
 
 pub returns-in_err-value-clause-means : goal.returns-in_err-value-clause-means
 returns-in_err-value-clause-means c = λ on_call.
     let m = c.args.program.now in
-    let e = view_expr c.args.expr.now in
-    let site = (span_of e).first in
-    let k = view_state c.args.st.now in
-    let k1 = view_state c.taken.new.st in
-    let first = ends_above c.args.mark (taken_from m.typed c.args.span.first site (cell_at m e) Cast (view_place c.args.place)) in
+    let site = (span_of (view_expr c.args.expr.now)).first in
+    let first = ends_above c.args.mark (taken_from m.typed c.args.span.first site (cell_at m (view_expr c.args.expr.now)) Cast (view_place c.args.place)) in
     let rest : ℤ → Run ℤ = λ x. if is_null x then give x else cast_to m.typed site (pointed m (Some (cast_row m.typed c.args.span))) x in
     let is : c.from_residual.result ≡ Err c.in_err-value.field-0.0 = search rules in
-    subst (λ r. Plans on_call m k r k1 (gives number (first >>= rest))) (sym is) (number_over on_call m k k1 c.in_err-value.field-0.0 first rest c.in_err-value.ensures.does)
+    subst (λ r. Plans on_call m (view_state c.args.st.now) r (view_state c.taken.new.st) (gives number (first >>= rest))) (sym is) (number_over on_call m (view_state c.args.st.now) (view_state c.taken.new.st) c.in_err-value.field-0.0 first rest c.in_err-value.ensures.does)

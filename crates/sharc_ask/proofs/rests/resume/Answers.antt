@@ -5,18 +5,13 @@ pub returns-in-Value-clause-means : goal.returns-in-Value-clause-means
 returns-in-Value-clause-means c = λ on_call.
     let m = c.args.program.now in
     let v = view_value c.args.value in
-    let k = view_state c.args.st.now in
-    let k1 = view_state c.with_value.new.st in
     let w = c.in-Value in
     let same : to_z w64 (of_z w64 c.number_in.result) ≡ number_in v = search rules in
-    subst (λ z. Plans on_call m k c.with_value.result k1 (rest_means on_call m z v)) (sym w.is) (subst (λ z. Plans on_call m k c.with_value.result k1 (value_means on_call m (view_expr w.e.now) w.rest z)) same (c.with_value.ensures.means on_call))
+    subst (λ z. Plans on_call m (view_state c.args.st.now) c.with_value.result (view_state c.with_value.new.st) (rest_means on_call m z v)) (sym w.is) (subst (λ z. Plans on_call m (view_state c.args.st.now) c.with_value.result (view_state c.with_value.new.st) (value_means on_call m (view_expr w.e.now) w.rest z)) same (c.with_value.ensures.means on_call))
 
 pub returns-in-Number-clause-means : goal.returns-in-Number-clause-means
 returns-in-Number-clause-means c = λ on_call.
     let m = c.args.program.now in
     let v = view_value c.args.value in
-    let k = view_state c.args.st.now in
-    let k1 = view_state c.with_number.new.st in
-    let w = c.in-Number in
     let same : to_z w64 (of_z w64 c.number_in-in-Number.result) ≡ number_in v = search rules in
-    subst (λ z. Plans on_call m k c.with_number.result k1 (rest_means on_call m z v)) (sym w.is) (subst (λ z. Plans on_call m k c.with_number.result k1 (number_means m w.rest z)) same (c.with_number.ensures.means on_call))
+    subst (λ z. Plans on_call m (view_state c.args.st.now) c.with_number.result (view_state c.with_number.new.st) (rest_means on_call m z v)) (sym c.in-Number.is) (subst (λ z. Plans on_call m (view_state c.args.st.now) c.with_number.result (view_state c.with_number.new.st) (number_means m c.in-Number.rest z)) same (c.with_number.ensures.means on_call))

@@ -4,8 +4,7 @@ use Rattle.sharc_ask.proofs.statements.begin_first.Goals as goal
 pub returns-in_ok-enter-in-Declares-clause-means : goal.returns-in_ok-enter-in-Declares-clause-means
 returns-in_ok-enter-in-Declares-clause-means c = λ on_call m.
     let run = gives as_nothing (done_first on_call m (view_first c.args.first.now)) in
-    let k1 = view_state c.enter.new.st in
-    entered_plans on_call m (view_state c.args.st.now) k1 k1 c.in_ok-enter-in-Declares.field-0 (Ok _) run c.in_ok-enter-in-Declares.ensures.does (λ s is. record {
+    entered_plans on_call m (view_state c.args.st.now) (view_state c.enter.new.st) (view_state c.enter.new.st) c.in_ok-enter-in-Declares.field-0 (Ok _) run c.in_ok-enter-in-Declares.ensures.does (λ s is. record {
       state = s;
       is = ap (λ x. gives as_nothing (done_first on_call m (view_first x)) (record s { fuel = suc s.fuel })) c.in-Declares.is ∙ out_given (gives as_nothing (declared on_call m (view_local c.in-Declares.local)) s);
       looks = is;

@@ -5,12 +5,10 @@ pub returns-clause-means : goal.returns-clause-means
 returns-clause-means c = λ on_call.
     let m = c.args.program.now in
     let l = c.args.local.now in
-    let k = view_state c.args.st.now in
-    let k1 = view_state c.begin.new.st in
     let step = begins_with l.declaration (pos 0) in
     let run = initialised on_call m l.declaration (view_option view_right l.initial) in
-    same_plans on_call m k k1 c.then.result (gives as_nothing (declared on_call m (view_local l))) (step_then step (plan_means on_call m c.initial_plan.result))
-    (λ s is. step_begins on_call m step as_nothing run c.initial_plan.result (c.initial_plan.ensures.means on_call) s) (c.then.ensures.means on_call m k k1 step c.begin.ensures.does)
+    same_plans on_call m (view_state c.args.st.now) (view_state c.begin.new.st) c.then.result (gives as_nothing (declared on_call m (view_local l))) (step_then step (plan_means on_call m c.initial_plan.result))
+    (λ s is. step_begins on_call m step as_nothing run c.initial_plan.result (c.initial_plan.ensures.means on_call) s) (c.then.ensures.means on_call m (view_state c.args.st.now) (view_state c.begin.new.st) step c.begin.ensures.does)
 
 pub returns-clause-begins : goal.returns-clause-begins
 returns-clause-begins c =

@@ -3,12 +3,9 @@ use Rattle.sharc_ask.proofs.statements.begin_right.Goals as goal
 
 pub returns-in-Value-clause-means : goal.returns-in-Value-clause-means
 returns-in-Value-clause-means c = λ on_call s is.
-    let m = c.args.program.now in
-    let kind = view_kind c.args.kind in
-    let e = view_expr c.in-Value.e in
     record {
       state = s;
-      is = ap (λ x. gives number (right_value on_call m kind (view_sharing c.args.target) (view_right x)) s) c.in-Value.is ∙ fit_begins kind e (eval on_call m e) s;
+      is = ap (λ x. gives number (right_value on_call c.args.program.now (view_kind c.args.kind) (view_sharing c.args.target) (view_right x)) s) c.in-Value.is ∙ fit_begins (view_kind c.args.kind) (view_expr c.in-Value.e) (eval on_call c.args.program.now (view_expr c.in-Value.e)) s;
       looks = is;
     }
 

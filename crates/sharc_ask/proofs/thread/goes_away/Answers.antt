@@ -4,10 +4,9 @@ use Rattle.sharc_ask.proofs.thread.goes_away.Goals as goal
 pub returns : goal.returns
 returns c =
     let k = view_state c.args.st.now in
-    let k1 = view_state c.leaves.new.st in
     let free = c.is_empty-free.result in
     let none : free ≡ (length k.held == 0) = search rules in
-    goes_when_free k k1 c.args.name c.args.site free c.leaves.result none (does_then k k k1 c.in_ok-unless.field-0 c.leaves.result (unless_stop free Trap.ReturnWithLockHeld c.args.site) (λ x. leaves c.args.name) c.in_ok-unless.ensures c.leaves.ensures)
+    goes_when_free k (view_state c.leaves.new.st) c.args.name c.args.site free c.leaves.result none (does_then k k (view_state c.leaves.new.st) c.in_ok-unless.field-0 c.leaves.result (unless_stop free Trap.ReturnWithLockHeld c.args.site) (λ x. leaves c.args.name) c.in_ok-unless.ensures c.leaves.ensures)
 
 pub returns-in_err-unless : goal.returns-in_err-unless
 returns-in_err-unless c =

@@ -14,7 +14,6 @@ returns-in-Whole c =
 
 pub returns-in_err-value : goal.returns-in_err-value
 returns-in_err-value c =
-    let m = c.args.program.now in
     let now = c.loop-stack in
     let k = view_state now.st in
     let k1 = view_state c.step.new.st in
@@ -22,7 +21,7 @@ returns-in_err-value c =
     let stack1 = stack_of c.step.new.stack in
     let end = c.in_err-value.field-0.0 in
     let over : c.from_residual.result ≡ Err end = search rules in
-    subst (λ r. Comes m c.args.begun (stack_of c.args.left) (view_state c.args.st.now) r k1) (sym over) (now.invariant.so_far (Err end) k1 (comes_over m now.at k k1 stack stack1 end c.in_err-value.ensures.steps))
+    subst (λ r. Comes c.args.program.now c.args.begun (stack_of c.args.left) (view_state c.args.st.now) r k1) (sym over) (now.invariant.so_far (Err end) k1 (comes_over c.args.program.now now.at k k1 stack stack1 end c.in_err-value.ensures.steps))
 
 pub loop-stack-preserved : goal.loop-stack-preserved
 loop-stack-preserved c =

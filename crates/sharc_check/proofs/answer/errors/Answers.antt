@@ -6,17 +6,15 @@ returns c =
     let m = c.args.program.now in
     let a = c.args.reached.now in
     let typed = c.typed-typed.ensures in
-    let last = c.of.result in
-    let notes = c.in_ok-notes.notes.items in
     let found = c.in_ok-errors.errors.items in
     let sorted = subst (λ (l : List ModeError). IsInOrder found l) (sym c.of.ensures) c.in_ok-put_in_order.ensures in
     let are : found ≡ errors_of m.typed (notes_about m (touched_by a)) =
-    c.in_ok-errors.ensures.errors ∙ ap (λ r. errors_of r notes) typed ∙ ap (errors_of m.typed) c.in_ok-notes.ensures in
+    c.in_ok-errors.ensures.errors ∙ ap (λ r. errors_of r c.in_ok-notes.notes.items) typed ∙ ap (errors_of m.typed) c.in_ok-notes.ensures in
     record {
       errors = record {
         found = errors_of m.typed (notes_about m (touched_by a));
         arise = all_arise m a c.requires;
-        ordered = subst (λ (l : List ModeError). IsInOrder l last) are sorted;
+        ordered = subst (λ (l : List ModeError). IsInOrder l c.of.result) are sorted;
       };
-      named = told_by m (touched_by a) c.in_ok-errors.named notes c.in_ok-errors.ensures.named c.in_ok-notes.ensures;
+      named = told_by m (touched_by a) c.in_ok-errors.named c.in_ok-notes.notes.items c.in_ok-errors.ensures.named c.in_ok-notes.ensures;
     }

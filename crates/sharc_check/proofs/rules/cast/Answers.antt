@@ -7,7 +7,6 @@ returns-then-same_rows c =
     let e = view_expr c.args.from.now in
     let s = c.args.to.now.span in
     let b = c.args.to.now.ctype.base in
-    let old = c.args.notes.now.items in
     let whole = c.position_count-all.ensures.whole.modes in
     let to = view_row c.cast_row-expected.result in
     let from = view_row c.in-Some.found in
@@ -23,8 +22,8 @@ returns-then-same_rows c =
     cast_said c.row_laws.ensures m s b to from (view_row c.deeper.result) (view_row c.deeper-in-Some.result) (row_at m.typed e) c.same_rows.result row_is to_ends from_ends c.deeper.ensures
     c.deeper-in-Some.ensures c.same_rows.ensures
     in
-    sym (append-nil old)
-    ∙ ap (λ l. old ++ l) (sym (ap (λ x. cast_notes m.typed s b (modes_of m x) (modes_at m e)) to_is ∙ said ∙ ap (λ x. cond x [] differs) c.if-same_rows.true))
+    sym (append-nil c.args.notes.now.items)
+    ∙ ap (λ l. c.args.notes.now.items ++ l) (sym (ap (λ x. cast_notes m.typed s b (modes_of m x) (modes_at m e)) to_is ∙ said ∙ ap (λ x. cond x [] differs) c.if-same_rows.true))
 
 pub returns-else-same_rows : goal.returns-else-same_rows
 returns-else-same_rows c =
@@ -32,7 +31,6 @@ returns-else-same_rows c =
     let e = view_expr c.args.from.now in
     let s = c.args.to.now.span in
     let b = c.args.to.now.ctype.base in
-    let old = c.args.notes.now.items in
     let whole = c.position_count-all.ensures.whole.modes in
     let to = view_row c.cast_row-expected.result in
     let from = view_row c.in-Some.found in
@@ -51,4 +49,4 @@ returns-else-same_rows c =
     let same : differs (view_root c.root_of-root.result) ≡ cast_notes m.typed s b (modes_of m (cast_row m.typed c.args.span)) (modes_at m e) =
     ap differs c.root_of-root.ensures
     ∙ sym (ap (λ x. cast_notes m.typed s b (modes_of m x) (modes_at m e)) to_is ∙ said ∙ ap (λ x. cond x [] (differs b)) c.if-same_rows.false) in
-    subst (λ l. OnOk c.differ.result (c.differ.new.notes.items ≡ old ++ l)) same c.differ.ensures
+    subst (λ l. OnOk c.differ.result (c.differ.new.notes.items ≡ c.args.notes.now.items ++ l)) same c.differ.ensures

@@ -12,13 +12,10 @@ returns c =
     let P : Resolution → List Finding = λ r. path_notes span (first_unfit_path r (place_of n.entity.role) base levels) in
     let F : Resolution → List Finding = λ r. private_field_notes r n in
     let N : Resolution → List Finding = λ r. flat_map (names_in_level r) levels in
-    let n1 = c.private.new.notes.items in
-    let n2 = c.path.new.notes.items in
-    let n3 = c.mode.new.notes.items in
     let n4 = c.private_field.new.notes.items in
     let said =
-    five c.args.notes.now.items n1 n2 n3 n4 (private_notes m n) (P m.typed) (mode_notes span (first_unfit_mode (place_of n.entity.role) base levels)) (F m.typed) (N m.typed) c.in_ok-private.ensures
-    (c.in_ok-path.ensures ∙ ap (λ r. n1 ++ P r) typed) c.in_ok-mode.ensures (c.in_ok-private_field.ensures ∙ ap (λ r. n3 ++ F r) typed)
+    five c.args.notes.now.items c.private.new.notes.items c.path.new.notes.items c.mode.new.notes.items n4 (private_notes m n) (P m.typed) (mode_notes span (first_unfit_mode (place_of n.entity.role) base levels)) (F m.typed) (N m.typed) c.in_ok-private.ensures
+    (c.in_ok-path.ensures ∙ ap (λ r. c.private.new.notes.items ++ P r) typed) c.in_ok-mode.ensures (c.in_ok-private_field.ensures ∙ ap (λ r. c.mode.new.notes.items ++ F r) typed)
     in
     subst (λ l. OnOk c.names.result (c.names.new.notes.items ≡ l))
     (ap (λ l. n4 ++ flat_map (names_in_level c.typed-typed.result.now) l) c.as_slice.ensures ∙ ap (λ r. n4 ++ N r) typed ∙ said)

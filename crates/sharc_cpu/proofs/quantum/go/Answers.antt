@@ -10,11 +10,11 @@ loop-turn-preserved g c =
     record {
       advanced = subst (λ (n : ℕ). Advanced first g.P.Port.leads c.args.code.now c.args.shape (machine_of c.args.start c.args.parts.now) (machine_of c.stretch-more.result.at c.stretch-more.new.parts) (g.P.Port.place c.args.port.now) (g.P.Port.place c.stretch-more.new.port) c.args.turns (c.loop-turn.turn + c.stretch-more.result.turns) n) (ap (λ (n : ℕ). c.loop-turn.turn + n) (c.stretch-more.ensures.advanced.runs runs)) a;
       may = ap may_go runs;
-      capacity = c.stretch-more.ensures.capacity ∙ c.loop-turn.invariant.capacity;
+      capacity = c.stretch-more.ensures.kept.room ∙ c.loop-turn.invariant.capacity;
       port = record {
-        words = c.stretch-more.ensures.port.words ∙ c.loop-turn.invariant.port.words;
-        same = c.stretch-more.ensures.port.same ∙ c.loop-turn.invariant.port.same;
-        served = λ thread h. c.stretch-more.ensures.port.served thread (c.loop-turn.invariant.port.served thread h);
+        words = c.stretch-more.ensures.kept.port.words ∙ c.loop-turn.invariant.port.words;
+        same = c.stretch-more.ensures.kept.port.same ∙ c.loop-turn.invariant.port.same;
+        served = λ thread h. c.stretch-more.ensures.kept.port.served thread (c.loop-turn.invariant.port.served thread h);
       };
     }
 

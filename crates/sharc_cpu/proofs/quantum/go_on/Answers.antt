@@ -8,7 +8,7 @@ tries-init g c = record {
   events = omega arith;
   may = c.requires.may;
   failed = omega arith;
-  within = c.requires.within;
+  within = c.requires.shape.within;
   number = refl;
   prints = omega arith;
   capacity = refl;
@@ -87,11 +87,12 @@ tries-smaller g c =
     let some : 0 < c.go-more.result.turns = some_turn c.go-more.result.turns c.remaining-most.result told.none (left.some (omega (arith, turns)) (omega (arith, events))) in
     omega (arith, told.few, left.turns, turns, some)
 
-pub go-more-requires-clause-within : goal.go-more-requires-clause-within
-go-more-requires-clause-within g c = c.tries.invariant.within
+pub go-more-requires-clause-shape : goal.go-more-requires-clause-shape
+go-more-requires-clause-shape g c = record {
+  shape = c.requires.shape.shape;
+  within = c.tries.invariant.within;
+  words = c.tries.invariant.port.words ∙ c.requires.shape.words;
+}
 
 pub go-more-requires-clause-room : goal.go-more-requires-clause-room
 go-more-requires-clause-room g c = omega (arith, c.requires.room, c.tries.invariant.prints, c.tries.invariant.capacity, c.remaining-most.ensures.turns)
-
-pub go-more-requires-clause-words : goal.go-more-requires-clause-words
-go-more-requires-clause-words g c = c.tries.invariant.port.words ∙ c.requires.words

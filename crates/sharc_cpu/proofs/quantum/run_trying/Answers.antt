@@ -1,40 +1,26 @@
-use Rattle.sharc_cpu.proofs.{Imports.{◌≡◌, ◌+◌, ◌-◌, ◌≤◌, ℕ, vec_len, vec_capacity, sym, ap, ◌∙◌, subst, arith, TurnState, Machine, wait_of, ThreadView, ThreadParts, machine_of, rest_of, IsWithin, GoesWhere, pause_of}, Paths.goes_none, OnPath.{thread_within, goes_thread, stop_is_told}}
+use Rattle.sharc_cpu.proofs.{Imports.{rules, ◌≡◌, ◌+◌, ◌-◌, ◌≤◌, ℕ, vec_len, vec_capacity, sym, ap, ◌∙◌, subst, arith, TurnState, Machine, wait_of, ThreadView, ThreadParts, machine_of, rest_of, IsWithin, GoesWhere, pause_of}, Paths.no_turns, OnPath.{thread_within, goes_thread, stop_is_told}}
 use Rattle.sharc_cpu.proofs.quantum.run_trying.Goals as goal
 
 pub returns-in-Stopped-clause-quantum : goal.returns-in-Stopped-clause-quantum
 returns-in-Stopped-clause-quantum g c =
     let t : ThreadView = c.args.thread.now in
     let is : t.machine.at.state ≡ TurnState.Stopped = ap (λ (v : ThreadView). v.machine.at.state) (sym c.thread.view_is) ∙ c.in-Stopped.is in
-    record {
-      turns = 0;
-      events = 0;
-      few = omega arith;
-      goes = goes_none g.P.Port.leads (g.P.Port.serves c.args.port.now t.machine.own.number) c.args.code.now c.args.shape.now t.machine (g.P.Port.place c.args.port.now);
-      made = omega arith;
-      within = c.requires.limit;
-      pause_is = ap (λ (x : TurnState). pause_of x 0 t.made c.args.limit) (sym is);
-      ran = λ e. cc;
-    }
+    no_turns g.P.Port.leads (g.P.Port.serves c.args.port.now) c.args.code.now c.args.shape.now c.args.turns c.args.limit t (g.P.Port.place c.args.port.now) _ c.requires.limit (ap (λ (x : TurnState). pause_of x 0 t.made c.args.limit) (sym is)) (λ e. cc)
 
 pub returns-in-Ended-clause-quantum : goal.returns-in-Ended-clause-quantum
 returns-in-Ended-clause-quantum g c =
     let t : ThreadView = c.args.thread.now in
     let is : t.machine.at.state ≡ TurnState.Ended = ap (λ (v : ThreadView). v.machine.at.state) (sym c.thread.view_is) ∙ c.in-Ended.is in
-    record {
-      turns = 0;
-      events = 0;
-      few = omega arith;
-      goes = goes_none g.P.Port.leads (g.P.Port.serves c.args.port.now t.machine.own.number) c.args.code.now c.args.shape.now t.machine (g.P.Port.place c.args.port.now);
-      made = omega arith;
-      within = c.requires.limit;
-      pause_is = ap (λ (x : TurnState). pause_of x 0 t.made c.args.limit) (sym is);
-      ran = λ e. cc;
-    }
+    no_turns g.P.Port.leads (g.P.Port.serves c.args.port.now) c.args.code.now c.args.shape.now c.args.turns c.args.limit t (g.P.Port.place c.args.port.now) _ c.requires.limit (ap (λ (x : TurnState). pause_of x 0 t.made c.args.limit) (sym is)) (λ e. cc)
 
-pub go_on-went-requires-clause-within : goal.go_on-went-requires-clause-within
-go_on-went-requires-clause-within g c =
-    subst (λ (p : ThreadParts). IsWithin c.args.shape.now (rest_of p).own) (sym c.deref_mut.ensures.value)
-    (subst (λ (v : ThreadView). IsWithin c.args.shape.now v.machine.own) (sym c.thread.view_is) (thread_within c.thread_laws.ensures c.args.code.now c.args.shape.now c.args.thread.now c.requires.thread))
+pub go_on-went-requires-clause-shape : goal.go_on-went-requires-clause-shape
+go_on-went-requires-clause-shape g c = record {
+  shape = search rules;
+  within =
+      subst (λ (p : ThreadParts). IsWithin c.args.shape.now (rest_of p).own) (sym c.deref_mut.ensures.value)
+      (subst (λ (v : ThreadView). IsWithin c.args.shape.now v.machine.own) (sym c.thread.view_is) (thread_within c.thread_laws.ensures c.args.code.now c.args.shape.now c.args.thread.now c.requires.thread));
+  words = search rules;
+}
 
 pub returns-clause-thread : goal.returns-clause-thread
 returns-clause-thread g c =

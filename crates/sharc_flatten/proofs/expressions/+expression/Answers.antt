@@ -23,18 +23,16 @@ expression-returns-in_ok-arguments-in-Call t c =
     let con = context c.args.source.now c.args.scope.now in
     let i = c.args.at.int in
     let r = c.args.at.reference in
-    let s = c.in-Call.span in
     let f = c.in-Call.of in
-    let list = c.in-Call.all in
     let l2 = c.arguments.new.lines.items in
     let l3 = c.called.new.lines.items in
     let typed : c.typed.result.now ≡ c.args.source.now.m.now.typed = c.typed.ensures in
     let named : c.named-named.result ≡ named_at c.args.source.now.m.now.typed f.site.token = c.named-named.ensures ∙ ap (λ x. named_at x f.site.token) typed in
     on_ok_weaker c.called.result
     (λ (e3 : l3 ≡ l2 ++ called_code i r c.at_site.result c.named-named.result f.text (view_arguments c.as_slice-in-Call.result.now)).
-    call_at con i r s f (view_expr c.args.expr.now) (view_arguments list.items) (view_arguments c.as_slice.result.now) (view_arguments c.as_slice-in-Call.result.now) c.parameters_named-parameters.result.now c.named-named.result
+    call_at con i r c.in-Call.span f (view_expr c.args.expr.now) (view_arguments c.in-Call.all.items) (view_arguments c.as_slice.result.now) (view_arguments c.as_slice-in-Call.result.now) c.parameters_named-parameters.result.now c.named-named.result
     c.at_site.result c.args.lines.now.items c.emit.new.lines.items l2 l3
-    (view_call c.args.expr.now s f list c.in-Call.is) (ap view_arguments c.as_slice.ensures.value) (ap view_arguments c.as_slice-in-Call.ensures.value)
+    (view_call c.args.expr.now c.in-Call.span f c.in-Call.all c.in-Call.is) (ap view_arguments c.as_slice.ensures.value) (ap view_arguments c.as_slice-in-Call.ensures.value)
     (c.parameters_named-parameters.ensures ∙ ap (λ x. parameters_named x c.named-named.result) c.typed-in-Call.ensures ∙ ap (parameters_named c.args.source.now.m.now.typed) named)
     named c.at_site.ensures c.in_ok-emit.ensures c.in_ok-arguments-in-Call.ensures e3)
     c.called.ensures
@@ -44,14 +42,13 @@ operation-returns-in_ok-element-in-Index t c =
     let con = context c.args.source.now c.args.scope.now in
     let i = c.args.at.int in
     let r = c.args.at.reference in
-    let s = c.in-Index.span in
     let e = view_expr c.args.expr.now in
     let l4 = c.element.new.lines.items in
     let l5 = c.lvalue.new.lines.items in
-    let form : e ≡ index s (view_expr c.in-Index.base.value) (view_expr c.in-Index.number.value) = ap view_expr c.in-Index.is in
+    let form : e ≡ index c.in-Index.span (view_expr c.in-Index.base.value) (view_expr c.in-Index.number.value) = ap view_expr c.in-Index.is in
     on_ok_weaker c.lvalue.result
     (λ (e5 : l5 ≡ l4 ++ lvalue_code con i r e).
-    index_at con i r c.in_ok-next-in-Index.next.int c.in_ok-next-in-Index.next.reference s e (view_expr c.in-Index.base.value) (view_expr c.deref.result.now) (view_expr c.deref-in-Index-2.result.now)
+    index_at con i r c.in_ok-next-in-Index.next.int c.in_ok-next-in-Index.next.reference c.in-Index.span e (view_expr c.in-Index.base.value) (view_expr c.deref.result.now) (view_expr c.deref-in-Index-2.result.now)
     (view_expr c.in-Index.number.value) (view_expr c.deref-in-Index.result.now) c.guard_of-guard.result c.args.lines.now.items c.indexed.new.lines.items c.expression.new.lines.items l4 l5
     form (ap view_expr c.deref.ensures) (ap view_expr c.deref-in-Index-2.ensures) (ap view_expr c.deref-in-Index.ensures) c.guard_of-guard.ensures
     c.in_ok-next-in-Index.ensures.code c.in_ok-next-in-Index.ensures.int c.in_ok-next-in-Index.ensures.reference c.in_ok-expression-in-Index.ensures c.in_ok-element-in-Index.ensures e5)
@@ -62,18 +59,16 @@ operation-returns-in_ok-expression-in-Binary t c =
     let con = context c.args.source.now c.args.scope.now in
     let i = c.args.at.int in
     let r = c.args.at.reference in
-    let s = c.in-Binary.span in
     let o = c.in-Binary.operator in
     let at = c.in-Binary.site in
-    let e = view_expr c.args.expr.now in
     let l2 = c.expression-in-Binary.new.lines.items in
     let l3 = c.binary.new.lines.items in
     let right = view_expr c.deref-in-Binary-2.result.now in
     let again = view_expr c.deref-in-Binary-3.result.now in
-    let form : e ≡ binary s o at (view_expr c.in-Binary.left.value) (view_expr c.in-Binary.right.value) = ap view_expr c.in-Binary.is in
+    let form : (view_expr c.args.expr.now) ≡ binary c.in-Binary.span o at (view_expr c.in-Binary.left.value) (view_expr c.in-Binary.right.value) = ap view_expr c.in-Binary.is in
     on_ok_weaker c.binary.result
     (λ (e3 : l3 ≡ l2 ++ binary_code con i r at o again right [] (λ j q. expression_code con j q right)).
-    binary_at con i r s o at e (view_expr c.in-Binary.left.value) (view_expr c.deref-in-Binary.result.now) again (view_expr c.in-Binary.right.value) right c.args.lines.now.items l2 l3
+    binary_at con i r c.in-Binary.span o at (view_expr c.args.expr.now) (view_expr c.in-Binary.left.value) (view_expr c.deref-in-Binary.result.now) again (view_expr c.in-Binary.right.value) right c.args.lines.now.items l2 l3
     form (ap view_expr c.deref-in-Binary.ensures) (ap view_expr c.deref-in-Binary-3.ensures) (ap view_expr c.deref-in-Binary-2.ensures)
     c.in_ok-expression-in-Binary.ensures e3)
     c.binary.ensures

@@ -7,14 +7,12 @@ loop-number-preserved c =
     let f = view_function c.in-Some.of.now in
     let old = c.loop-number.bytes.items in
     let new = c.add_text.new.bytes.items in
-    let told = c.args.rows.now.items in
     let rows = c.loop-number.rows.items in
     let n = c.loop-number.number in
     let inv = c.loop-number.invariant in
-    let x = c.index.result.now in
     let name = c.in_ok-name-in-Some.name in
     let place = c.in_ok-name-in-Some.ensures in
-    let made = record x { name = name } in
+    let made = record c.index.result.now { name = name } in
     let text_is : c.as_slice.result.now ≡ f.name.text = c.as_slice.ensures in
     let bytes : new ≡ old ++ f.name.text = place.bytes ∙ ap (λ l. old ++ l) text_is in
     let until : name.until ≡ length old + length f.name.text = place.until ∙ ap (λ l. length old + length l) text_is in
@@ -25,8 +23,8 @@ loop-number-preserved c =
     record {
       grows = grows_more c.args.bytes.now.items old new inv.grows grows;
       size = length-set rows n made ∙ inv.size;
-      left = left_more told rows n made inv.left;
-      named = name_more old new told rows (names_of fs) n x made f.name.text within inv.size inv.left c.index.ensures named grows inv.named
+      left = left_more c.args.rows.now.items rows n made inv.left;
+      named = name_more old new c.args.rows.now.items rows (names_of fs) n c.index.result.now made f.name.text within inv.size inv.left c.index.ensures named grows inv.named
           (λ more. record { name_at = name; is = refl; lies = lies_at_end old f.name.text new name bytes place.from until more });
     }
 

@@ -22,8 +22,8 @@ returns-clause-locks c = λ x code s ls wt fits few followed run checked t site 
     let there = c.invariant_laws.ensures in
     let is_run = (laws.checked code s run).0 checked in
     let lacks = lacking there.cells there.pointers there.rights laws c.invariant_laws.ensures.opens c.invariant_laws.ensures.keeps x code s ls wt fits few in
-    let named = locks_named laws.turns.outcomes there.cells x code s ls wt fits followed (λ run is_run. record { halts = (lacks run is_run).halts }) (λ run is_run. (lacks run is_run).consists) run is_run t site word stop in
-    shows_lock code (history_of code s run) t ((place_after code s run).threads t) site ((lacks run is_run).shows t site word stop) named.mutex named.check named.access named.is named.mode
+    let named = locks_named laws.turns.outcomes there.cells x code s ls wt fits followed (λ run is_run. record { halts = (lacks run is_run).1.halts }) (λ run is_run. (lacks run is_run).0) run is_run t site word stop in
+    shows_lock code (history_of code s run) t ((place_after code s run).threads t) site ((lacks run is_run).1.shows t site word stop) named.mutex named.check named.access named.is named.mode
 
 pub returns-clause-rules : goal.returns-clause-rules
 returns-clause-rules c = λ x code s ls wt fits few followed run checked t site word stop e thread is until.
@@ -31,6 +31,6 @@ returns-clause-rules c = λ x code s ls wt fits few followed run checked t site 
     let there = c.invariant_laws.ensures in
     let is_run = (laws.checked code s run).0 checked in
     let lacks = lacking there.cells there.pointers there.rights laws c.invariant_laws.ensures.opens c.invariant_laws.ensures.keeps x code s ls wt fits few in
-    let named = locks_named laws.turns.outcomes there.cells x code s ls wt fits followed (λ run is_run. record { halts = (lacks run is_run).halts }) (λ run is_run. (lacks run is_run).consists) run is_run t site word stop in
+    let named = locks_named laws.turns.outcomes there.cells x code s ls wt fits followed (λ run is_run. record { halts = (lacks run is_run).1.halts }) (λ run is_run. (lacks run is_run).0) run is_run t site word stop in
     breaks code (history_of code s run) t ((place_after code s run).threads t) site
-    (shows_lock code (history_of code s run) t ((place_after code s run).threads t) site ((lacks run is_run).shows t site word stop) named.mutex named.check named.access named.is named.mode) e thread is until
+    (shows_lock code (history_of code s run) t ((place_after code s run).threads t) site ((lacks run is_run).1.shows t site word stop) named.mutex named.check named.access named.is named.mode) e thread is until

@@ -11,10 +11,10 @@ returns c = λ x code s ls wt fits few run checked.
     let l = lock_runs there.cells there.pointers there.rights laws c.invariant_laws.ensures.opens c.invariant_laws.ensures.keeps x code s ls wt fits few run is_run in
     let o = keeps_modes c.invariant_laws.ensures.states there.cells there.pointers there.rights laws c.invariant_laws.ensures.opens c.invariant_laws.ensures.keeps x code s ls wt fits few run is_run in
     record {
-      live = λ before e after a stands is. (h.allowed before e after a stands is).there;
+      live = λ before e after a stands is. (h.allowed before e after stands a is).there;
       one_mode = one_mode (history_of code s run) o.same;
-      owner = λ before e after a stands is private. (h.allowed before e after a stands is).owner private;
-      unwritten = λ before e after a stands is readonly. (h.allowed before e after a stands is).unwritten readonly;
-      under_lock = λ before e after a mutex stands is mode. (l.under before e after a stands is) mutex mode;
+      owner = λ before e after a stands is private. (h.allowed before e after stands a is).owner private;
+      unwritten = λ before e after a stands is readonly. (h.allowed before e after stands a is).unwritten readonly;
+      under_lock = λ before e after a mutex stands is mode. (l.under before e after stands a is) mutex mode;
       shared = clean_shares (newest code s run) k.clean;
     }

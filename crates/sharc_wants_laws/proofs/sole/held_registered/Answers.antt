@@ -10,8 +10,8 @@ returns c = λ m p flat flattens fits code is s run checked consistent thread b 
     let founds = founds_of (turns_of thread run) in
     let at = machine_after code s (begun code s thread) founds in
     let said = said_in code s (begun code s thread) elements founds in
-    let events = events_are c.run_paths_law.ensures m code holds s run checked consistent thread in
-    subst (λ at. HoldsRegistered code at b) (sym (place_is c.run_paths_law.ensures m code holds s run checked consistent thread))
+    let events = events_are c.own_are_told.ensures c.run_paths_law.ensures m code holds s run checked consistent thread in
+    subst (λ at. HoldsRegistered code at b) (sym (place_is c.own_are_told.ensures c.run_paths_law.ensures m code holds s run checked consistent thread))
     (⊎_elim
     (λ h. absurd (not_silent m names code R thread at said events b may h.nothing))
     (λ w. registered m names code R thread at said events b may w)

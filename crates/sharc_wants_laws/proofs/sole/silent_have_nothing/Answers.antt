@@ -5,5 +5,5 @@ pub returns : goal.returns
 returns c = λ m p flat flattens fits code is s run checked consistent thread none.
     let good = is_guarded c.typed_is_framed.ensures c.framed_law.ensures m p flat flattens fits code is in
     let holds = c.path_holds.ensures m p flat flattens fits code is in
-    subst (HasNothing code) (sym (place_is c.run_paths_law.ensures m code holds s run checked consistent thread))
-    (nothing_there is.g code is.generated good s thread (elements_before code s thread run) (founds_of (turns_of thread run)) (sym (events_are c.run_paths_law.ensures m code holds s run checked consistent thread) ∙ none))
+    subst (HasNothing code) (sym (place_is c.own_are_told.ensures c.run_paths_law.ensures m code holds s run checked consistent thread))
+    (nothing_there is.g code is.generated good s thread (elements_before code s thread run) (founds_of (turns_of thread run)) (sym (events_are c.own_are_told.ensures c.run_paths_law.ensures m code holds s run checked consistent thread) ∙ none))

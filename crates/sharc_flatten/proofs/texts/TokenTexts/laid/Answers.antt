@@ -10,9 +10,8 @@ pub returns-in_ok-lock-in-Some-clause-laid : goal.returns-in_ok-lock-in-Some-cla
 returns-in_ok-lock-in-Some-clause-laid c more =
     let t = c.args.self.now.t.now in
     let first = tokens_text t.program.tokens.list in
-    let old = c.args.bytes.now.items in
     let new = c.lock_text.new.bytes.items in
     let spot = c.in-Some.spot in
-    let grows = grows_more first old new c.requires c.in_ok-lock-in-Some.ensures.grows in
+    let grows = grows_more first c.args.bytes.now.items new c.requires c.in_ok-lock-in-Some.ensures.grows in
     some_laid t (new ++ more) c.args.op c.with_texts.result spot c.place-lvalue.result c.in_ok-lock-in-Some.lock (sym c.in-Some.ensures) c.with_texts.ensures
     (record { lvalue = lies_on first new (words_of t spot.lvalue.from spot.lvalue.until) c.place-lvalue.result c.place-lvalue.ensures grows more; lock = c.in_ok-lock-in-Some.ensures.lies more })

@@ -1,5 +1,15 @@
 -- The first function called main, one function after the other.
-use Rattle.sharc_audit.proofs.Imports.{◌≡◌, ℕ, zero, suc, ◌+◌, true, false, List, [], ◌∷◌, drop, Some, None, refl, ap, sym, ◌∙◌, add-one, bytes_eq-Decides, slice_get, codes, if◌then◌else◌, Option, IsTrue, bytes_eq, Function, Resolution, IsResolved, function_at, OneFunctionOfName, is_named_main, main_from, OneMain}
+use Rattle.std.proofs.{Common.{◌≡◌, ℕ, zero, suc, ◌+◌, true, false, List, [], ◌∷◌, drop, Option, Some, None, refl, ap, sym, ◌∙◌, add-one}, lemmas.Slice.Eq.bytes_eq-Decides}
+use Rattle.std.specs.{Prelude.{IsTrue, codes, if◌then◌else◌, slice_get}, Str.bytes_eq}
+use Rattle.sharc_tree.specs.Tree.{Function}
+use Rattle.sharc_ctype.specs.Resolved.{IsResolved, Resolution, function_at}
+use Rattle.sharc_ctype_laws.specs.Laws.{OneFunctionOfName}
+use Rattle.sharc_meaning.specs.Runs.{is_named_main}
+use Rattle.sharc_judge.specs.Starting.{main_from}
+
+-- one function at most is called main
+abbrev pub OneMain : Resolution → Type 0
+OneMain r = (f g : ℕ) → IsTrue (is_named_main (function_at r f)) → IsTrue (is_named_main (function_at r g)) → f ≡ g
 
 pub main_end : (k n : ℕ) (fs : List Function) → slice_get fs n ≡ None → main_from k (drop n fs) ≡ None
 main_end k zero (f ∷ fs) h = absurd (cc)
