@@ -1,5 +1,5 @@
 -- The sample is well typed.
-use Rattle.sharc_invariant.proofs.{Imports.{◌≡◌, ℕ, pos, zero, suc, ◌+◌, ◌%◌, ◌<◌, ◌≤◌, ◌⊎◌, ◌≢◌, Bool, true, false, List, [], ◌∷◌, Some, None, refl, sym, ap, ◌∙◌, subst, inl, inr, arith, eqb-false, length, slice_index, slice_index_or, nat_eq, Code, GlobalCells, Instr, Char, Int, Long, instr_at, function_of, put, Cell, Register, put_other, put_all, FieldMode, type_in, AreTargets, ObjectType, Field, Content, CellMode, field_at, field_in, field_of_cell, global_field, mode_in, is_private, is_pointer, is_mutex, cells_of, nothing, Under, OfType, OfSameElement as OfElement, Integer, MutexWord, Pointer, Entry, Empty, Refers, Number, Anything, Exactly, Within, Closed, Checked, Holds, SoleGate as Sole, Label, Labels, Less, Leads, SameReference, Itself, IsCopy, LessEntry, EntryMentions, IsScoped, IsFree, HasBase as BaseOf, fill, empty, gated, knows, IsPlain, IsWellTyped, AreGlobals, Initial, Fine, HasCell, IsVacant, IsSameContent, MayStart, Directly, refs_in, ints_in, entry_label, the_targets, the_private, the_dynamic, the_instrs, the_labels, the_labels_list, outside, raised, w2, w4, w5, w8, w10, w13, w15, w16, w17, w19, w21, w22, w23, w24, w25, w26, m27, m28, m29, m30, m31, m32, m33, m34, given, m35, m36, m37, m38, m39, m40, m41, IsSample, StaticType}, Scoped.{less_refl, scoped_gate, scoped_room, scoped_knows, scoped_forgets, scoped_number, scoped_fill, scoped_empty}}
+use Rattle.sharc_invariant.proofs.{Imports.{◌≡◌, ℕ, pos, zero, suc, ◌+◌, ◌%◌, ◌<◌, ◌≤◌, ◌⊎◌, ◌≢◌, Bool, true, false, List, [], ◌∷◌, Some, None, refl, sym, ap, ◌∙◌, subst, inl, inr, arith, eqb-false, length, slice_index, slice_index_or, nat_eq, Code, GlobalCells, Instr, Char, Int, Long, instr_at, function_of, put, Cell, Register, put_other, put_all, FieldMode, type_in, AreTargets, ObjectType, Field, Content, CellMode, field_at, field_in, field_of_cell, global_field, mode_in, is_private, is_pointer, is_mutex, cells_of, nothing, Under, OfType, OfSameElement as OfElement, Integer, MutexWord, Pointer, Entry, Empty, Refers, Number, Anything, Exactly, Within, Closed, Checked, Holds, SoleGate as Sole, Label, Less, Leads, SameReference, Itself, IsCopy, LessEntry, EntryMentions, IsScoped, IsFree, HasBase as BaseOf, fill, empty, gated, knows, IsPlain, IsWellTyped, AreGlobals, Initial, Fine, HasCell, IsVacant, IsSameContent, MayStart, Directly, refs_in, ints_in, entry_label, the_targets, the_private, the_dynamic, the_instrs, the_labels, the_labels_list, outside, raised, w2, w4, w5, w8, w10, w13, w15, w16, w17, w19, w21, w22, w23, w24, w25, w26, m27, m28, m29, m30, m31, m32, m33, m34, given, m35, m36, m37, m38, m39, m40, m41, IsSample, StaticType}, Scoped.{less_refl, scoped_gate, scoped_room, scoped_knows, scoped_forgets, scoped_number, scoped_fill, scoped_empty}}
 use Rattle.sharc_code.specs.declared.instr.Instr.TheVariants.{Return, Lock}
 use Rattle.sharc_invariant.specs.{Types.row_of, Types.FieldMode.{Private, Racy, Dynamic, Behind}}
 
