@@ -44,31 +44,6 @@ less_refl l = record {
 pub scoped_gate : (ints refs : ℕ) (l : Label) (g : Gate) → IsScoped ints refs l → IsScoped ints refs (gated l g)
 scoped_gate ints refs l g h = record { few = h.few; paths = h.paths; copies = h.copies; bases = h.bases; known = h.known; passes = h.passes; numbers = h.numbers }
 
-pub scoped_room : (ints refs : ℕ) (l : Label) (b : Bool) → IsScoped ints refs l → IsScoped ints refs (record l { room = b })
-scoped_room ints refs l b h = record { few = h.few; paths = h.paths; copies = h.copies; bases = h.bases; known = h.known; passes = h.passes; numbers = h.numbers }
-
-pub scoped_knows : (ints refs : ℕ) (l : Label) (r : ℕ) → l.env r ≢ Empty → IsScoped ints refs l → IsScoped ints refs (knows l r)
-scoped_knows ints refs l r ne h = record {
-  few = h.few;
-  paths = h.paths;
-  copies = h.copies;
-  bases = h.bases;
-  passes = h.passes;
-  numbers = h.numbers;
-  known = put_all (λ q b. b ≡ true → l.env q ≢ Empty) l.known r true (λ _. ne) (λ q _. h.known q);
-}
-
-pub scoped_forgets : (ints refs : ℕ) (l : Label) (r : ℕ) → IsScoped ints refs l → IsScoped ints refs (record l { known = put l.known r false })
-scoped_forgets ints refs l r h = record {
-  few = h.few;
-  paths = h.paths;
-  copies = h.copies;
-  bases = h.bases;
-  passes = h.passes;
-  numbers = h.numbers;
-  known = put_all (λ q b. b ≡ true → l.env q ≢ Empty) l.known r false (λ e. absurd (cc)) (λ q _. h.known q);
-}
-
 pub scoped_number : (ints refs : ℕ) (l : Label) (r : ℕ) (n : Number) → r < ints → ((b : ℕ) → HasBase n b → l.env b ≢ Empty) → IsScoped ints refs l → IsScoped ints refs (set_number l r n)
 scoped_number ints refs l r n lt base h = record {
   few = h.few;
