@@ -1,5 +1,5 @@
 -- What is known behind a change is scoped where it was before, and a label says no more than itself.
-use Rattle.sharc_invariant.proofs.{Imports.{◌≡◌, ℕ, ◌<◌, ◌≤◌, ◌⊎◌, ◌≢◌, Bool, true, false, cond, List, [], ◌∷◌, refl, sym, ap, ◌∙◌, subst, inl, inr, ⊎_elim, arith, eqb-false, nat_eq, Width, Int, put, put_same, put_other, put_all, Lock, StaticType, Mentions, Through, Entry, Empty, Refers, Number, Anything, Within, OfElement, Gate, Closed, SoleGate as Sole, Label, Itself, IsCopy, SameLock, AllSame, LessEntry, Narrower, LessNumber, LessGate, Less, EntryMentions, HasBase, IsScoped, set_number, fill, empty, gated, knows, without_copies, without_index}, Frames.kept_pass}
+use Rattle.sharc_invariant.proofs.{Imports.{◌≡◌, ℕ, ◌<◌, ◌≤◌, ◌⊎◌, ◌≢◌, Bool, true, false, cond, List, [], ◌∷◌, refl, sym, ap, ◌∙◌, subst, inl, inr, ⊎_elim, arith, eqb-false, nat_eq, Width, Int, put, put_same, put_other, put_all, Lock, StaticType, Mentions, Through, Entry, Empty, Refers, Number, Anything, Within, OfElement, Gate, Closed, SoleGate as Sole, Label, Itself, IsCopy, SameLock, AllSame, LessEntry, Narrower, LessNumber, LessGate, Less, EntryMentions, HasBase, IsScoped, set_number, fill, empty, gated, without_copies, without_index}, Frames.kept_pass}
 
 -- ---- less than itself
 same_lock_refl : (l : Label) (r : ℕ) (a : Lock) → SameLock l r a a
