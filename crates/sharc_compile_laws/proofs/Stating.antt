@@ -1,5 +1,5 @@
 -- The code of a statement: what variables hold is held before it and after it, and nothing else.
-use Rattle.sharc_compile_laws.proofs.{Imports.{◌≡◌, inl, inr, ⊎_elim, ℕ, ◌+◌, ◌<◌, ◌≤◌, Bool, true, false, List, [], ◌∷◌, ◌++◌, length, take, refl, ap, sym, ◌∙◌, subst, arith, length-append, append_assoc, Option, Some, None, false≢true, cases_eq, append-nil, take-append-le, take_all, take_at, Site, Declaration, Jump, Break, Continue, span_of, Expression, Right, value, malloc, Simple, assign, does_call, Local, First, nothing, declares, does, Statement, empty, block, declare, simple, jump, return, if_then, if_then_else, while, for, Statements, no_statements, statement, Kind, declared_kind, pointed, Assignment, written, row_at, declared_row, Sharing, is_reference, Op, Flat, Lvalue, Slot, Context, slot_of, ref_count, at_site, ends_from, leaves, Target, variable, base_width, index_width, store_code, width_code, kind_of, is_ref, target_of, mode_of, guard_of, lvalue_in, expression_code, place_code, elements_code, right_code, simple_code, with_variable, ints_of, refs_of, zero_code, initial_code, local_code, first_code, behind_first, step_code, test_code, turn_code, Around, opened, looping, jump_code, result_code, return_code, body_at, turns_code, behind_statement, behind_statements, statement_code, statements_code, Suits, Goes, CountSuits, RightSuits, LeftSuits, SimpleSuits, InitialSuits, FirstSuits, TestSuits, IfThere, StatementSuits, StatementsSuit, is_declaration, in_first, in_statement, free, full, Fits, Slots, with_slot, with_moved, result_slot, Enters, Leaves, Level}, Expressing.{Entries, gives_reference, expressions, places}, Leaving.{kept, leaves_to, ends}, Located.{width, one_more, declared_reference}, Parts.{plain_integer, B, then_do, pre, post, none, does as does_one, keeps, enter, null_at, widths_kept, truths, drops, cells_stored, variable_stored}, Pieces.{held, looped}, Slots.{AreFit, fits_full, fits_free, fit_same, below, below_full, below_free, fit_below, none_cleared, with_same, with_other, pushed}}
+use Rattle.sharc_compile_laws.proofs.{Imports.{◌≡◌, inl, inr, ⊎_elim, ℕ, ◌+◌, ◌<◌, ◌≤◌, Bool, true, false, List, [], ◌∷◌, ◌++◌, length, take, refl, ap, sym, ◌∙◌, subst, arith, length-append, append_assoc, Option, Some, None, false≢true, cases_eq, append-nil, take-append-le, take_all, take_at, Site, Declaration, Jump, Break, Continue, span_of, Expression, Right, value, malloc, Simple, assign, does_call, Local, First, nothing, declares, does, Statement, empty, block, declare, simple, jump, return, if_then, if_then_else, while, for, Statements, no_statements, statement, Kind, declared_kind, pointed, Assignment, written, row_at, declared_row, Sharing, is_reference, Op, Flat, Lvalue, Slot, Context, slot_of, ref_count, at_site, ends_from, leaves, Target, variable, base_width, index_width, store_code, width_code, kind_of, is_ref, target_of, mode_of, guard_of, lvalue_in, expression_code, place_code, elements_code, right_code, simple_code, with_variable, ints_of, refs_of, zero_code, initial_code, local_code, first_code, behind_first, step_code, test_code, turn_code, Around, opened, looping, jump_code, result_code, return_code, body_at, turns_code, behind_statement, behind_statements, statement_code, statements_code, Suits, Goes, CountSuits, RightSuits, LeftSuits, SimpleSuits, InitialSuits, FirstSuits, TestSuits, IfThere, StatementSuits, StatementsSuit, is_declaration, in_first, in_statement, free, full, Fits, Slots, with_slot, with_moved, result_slot, Enters, Leaves, Level}, Expressing.{Entries, gives_reference, expressions, places}, Leaving.{kept, leaves_to, ends}, Located.{width, one_more, declared_reference}, Parts.{plain_integer, B, then_do, pre, post, none, does as does_one, keeps, enter, null_at, widths_kept, truths, drops, cells_stored, variable_stored}, Pieces.{held, looped}, Slots.{fits_full, fits_free, fit_same, below, below_full, below_free, fit_below, none_cleared, with_same, with_other, pushed}, Looping.test_length}
 use Rattle.sharc_flat_lemmas.proofs.Flow as flow
 
 -- ---- scopes
@@ -260,9 +260,6 @@ module _ (flat : Flat) (owner : ℕ → ℕ) (f : ℕ) (m : Assignment) where
       s : Slots
       s = with_slot (below 0) r full
 
-      one_full : AreFit s (with_slot (below 0) r full)
-      one_full = fit_same s
-
       there : 0 ≡ r → flow.Piece (held flat owner g f) D s pc (Op.MoveReference 0 r ∷ []) (below 1)
       there e = does_one flat owner g f D s (Op.MoveReference 0 r) s (below 1)
           (fit_below 1 s (λ k le. with_other (below 0) r full k (λ z. omega (arith, z, le, e)) ∙ below_free 0 k (omega arith))) (λ table q n. inl (e, n)) pc
@@ -308,46 +305,21 @@ module _ (flat : Flat) (owner : ℕ → ℕ) (f : ℕ) (m : Assignment) where
 
   -- ---- loops
 
-  test_length : (c : Context) (e : Expression) (over : ℕ) → length (turn_code c (Some e) over) ≡ length (test_code c e) + 1
-  test_length c e over = length-append (test_code c e) (Op.SkipIfZero (ints_of c) over ∷ [])
-
   -- of the code in a loop what leads back is known, too
   abbrev M : ℕ → Around → ℕ → (ℕ → Slots) → Type 0
   M n a pc table = L true n a table × Enters flat owner g table f (below n) (pc + 3)
 
-  back : (n : ℕ) (a : Around) (pc at : ℕ) (step : List Op) → Q n step n → S (M n a pc) n at (step ++ Op.Jump (pc + 3) ∷ []) n
-  back n a pc at step p =
-      then_at (M n a pc) n n n at step (Op.Jump (pc + 3) ∷ []) (flow.known (held flat owner g f) E (M n a pc) (below n) at step (below n) (λ table d. d.0.0) (p at)) (jump_at (M n a pc) n (pc + 3) (at + length step) n (λ table d. d.1))
-
-  inner_of : (c : Context) → c.program ≡ m → (a : Around) (e : Option Expression) → IfThere (TestSuits c) e → (pc : ℕ) (step code : List Op) → Q (refs_of c) step (refs_of c) → S (L true (refs_of c) a) (refs_of c) (body_at pc (turn_code c e)) code (refs_of c)
-      → flow.Inner (held flat owner g f) (M (refs_of c) a pc) (below (refs_of c)) (pc + 3) (turn_code c e (length code + length step + 1)) code (step ++ Op.Jump (pc + 3) ∷ [])
-  inner_of c same a None t pc step code p q =
-      let n = refs_of c in
-      let D = M n a pc in
-      let body = flow.known (held flat owner g f) (L true n a) D (below n) (pc + 3) code (below n) (λ table d. d.0) (at_place (L true n a) n (body_at pc (turn_code c None)) (pc + 3) code n (omega arith) q) in
-      flow.always (held flat owner g f) D (below n) (pc + 3) code (step ++ Op.Jump (pc + 3) ∷ []) body (back n a pc (pc + 3 + length code) step p)
-  inner_of c same a (Some e) t pc step code p q =
-      let n = refs_of c in
-      let D = M n a pc in
-      let X = test_code c e in
-      let S = step ++ Op.Jump (pc + 3) ∷ [] in
-      let at = pc + 3 + length X + 1 in
-      let z : body_at pc (turn_code c (Some e)) ≡ at = omega (arith, test_length c e 0) in
-      let body = flow.known (held flat owner g f) (L true n a) D (below n) at code (below n) (λ table d. d.0) (at_place (L true n a) n (body_at pc (turn_code c (Some e))) at code n z q) in
-      let test = flow.known (held flat owner g f) E D (below n) (pc + 3) X (below n) (λ table d. d.0.0) (tests c same e t (pc + 3)) in
-      let count : length (code ++ S) ≡ length code + length step + 1 = omega (arith, length-append code S, length-append step (Op.Jump (pc + 3) ∷ [])) in
-      subst (λ k. flow.Inner (held flat owner g f) D (below n) (pc + 3) (X ++ Op.SkipIfZero (ints_of c) k ∷ []) code S) count
-      (flow.decided (held flat owner g f) D (below n) (pc + 3) (ints_of c) X code S tt test body (back n a pc (at + length code) step p))
-
   loops : (c : Context) → c.program ≡ m → (b : Bool) (n : ℕ) (a around : Around) (e : Option Expression) → IfThere (TestSuits c) e → (pc : ℕ) (step code : List Op) → Q (refs_of c) step (refs_of c)
       → S (L true (refs_of c) (looping around (pc + 1) (pc + 2))) (refs_of c) (body_at pc (turn_code c e)) code (refs_of c) → S (L b n a) (refs_of c) pc (turns_code pc step (turn_code c e (length code + length step + 1)) code) (refs_of c)
   loops c same b n a around e t pc step code p q =
-      let T = turn_code c e (length code + length step + 1) in
-      let S = step ++ Op.Jump (pc + 3) ∷ [] in
       let k = refs_of c in
       let inside = looping around (pc + 1) (pc + 2) in
-      looped flat owner g f (L b n a) (M k inside pc) (below k) pc T code S (length T + length code + length step + 2) (λ table d e1 e2 e3. ((d.0, λ sure. (e1, e2)), e3)) (omega (arith, length-append step (Op.Jump (pc + 3) ∷ [])))
-      (inner_of c same inside e t pc step code p q)
+      let D = M k inside pc in
+      looped flat owner g f (L b n a) D (below k) c pc step code
+      (λ at. then_at D k k k at step (Op.Jump (pc + 3) ∷ []) (flow.known (held flat owner g f) E D (below k) at step (below k) (λ table d. d.0.0) (p at)) (jump_at D k (pc + 3) (at + length step) k (λ table d. d.1)))
+      (λ table d e1 e2 e3. ((d.0, λ sure. (e1, e2)), e3)) e
+      (λ x is. flow.known (held flat owner g f) E D (below k) (pc + 3) (test_code c x) (below k) (λ table d. d.0.0) (tests c same x (subst (IfThere (TestSuits c)) is t) (pc + 3)))
+      (flow.known (held flat owner g f) (L true k inside) D (below k) (body_at pc (turn_code c e)) code (below k) (λ table d. d.0) q)
 
   plain_end : (D : (ℕ → Slots) → Type 0) (c : Context) (x : Statement) → is_declaration x ≡ false → (pc : ℕ) (os : List Op) → S D (refs_of c) pc os (refs_of (behind_statement c x)) → S D (refs_of c) pc os (refs_of c)
   plain_end D c x e pc os p = subst (λ z. S D (refs_of c) pc os (refs_of z)) (nothing_declared c x e) p
