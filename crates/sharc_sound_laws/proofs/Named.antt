@@ -4,14 +4,11 @@ use Rattle.sharc_tree.specs.Tree.{Function}
 
 -- two functions with one name are one
 pub same_function : (r : Resolution) → NameThemselves r → (n k : ℕ) (site : Site) → IsNamedAt (function_at r n) site → IsNamedAt (function_at r k) site → n ≡ k
-same_function r names n k site a b = by (function_at r n) (function_at r k) refl refl a b
+same_function r names n k site a b = number_eq n k (sym (named n (function_at r n) refl a) ∙ named k (function_at r k) refl b)
   where
     number_eq : (a b : ℕ) → Named.Function a ≡ Named.Function b → a ≡ b
     number_eq a b e = cc
 
-    by : (f g : Option Function) → function_at r n ≡ f → function_at r k ≡ g → IsNamedAt f site → IsNamedAt g site → n ≡ k
-    by None g p q a b = absurd a
-    by (Some f) None p q a b = absurd b
-    by (Some f) (Some g) p q a b =
-        let tokens = ap (λ (s : Site). named_at r s.token) (sym a ∙ b) in
-        number_eq n k (sym (names.functions n f p) ∙ tokens ∙ names.functions k g q)
+    named : (j : ℕ) (o : Option Function) → function_at r j ≡ o → IsNamedAt o site → named_at r site.token ≡ Named.Function j
+    named j None at is = absurd is
+    named j (Some f) at is = ap (λ (s : Site). named_at r s.token) is ∙ names.functions j f at
