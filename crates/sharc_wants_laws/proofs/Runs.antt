@@ -344,8 +344,5 @@ module _ (r : Resolution) (n : ℕ) where
     pub atom_weak : {A : Type 0} (ts : List ℤ) (m : Run A) (p : A → List ℤ → Type 0) → Atom false true ts m p → Atom false false ts m p
     atom_weak ts m p h = record { steady = h.steady; runs = λ s at. ran_weak _ _ s.callers p (m s) (h.runs s at) }
 
-    pub atom_as : {A : Type 0} (a b : Bool) (ts : List ℤ) (m : Run A) (p q : A → List ℤ → Type 0) → ((x : A) (us : List ℤ) → p x us → q x us) → Atom a b ts m p → Atom a b ts m q
-    atom_as a b ts m p q f h = record { steady = h.steady; runs = λ s at. ran_as a b _ _ s.callers p q (m s) f (h.runs s at) }
-
     pub kept_atom : {A : Type 0} (ts : List ℤ) (m : Run A) (p : A → List ℤ → Type 0) → Atom false false ts m p → Kept ts m p
     kept_atom ts m p h = record { runs = λ s at. record { ran = h.runs s at; past = goes_steady (m s) (m (more s)) (h.steady s) } }
