@@ -37,7 +37,7 @@ counted_form _ unsigned = tt
 module _ (alone : SomeAreAlone) (targets : TargetsAre) (globals_hold : GlobalsHold) (fit : MadeTablesFit) (granules : GranulesAreFew) (m : Assignment) (a : IsAccepted m) (flat : FlatCode) (made : Flattens m flat) (code : Code) (is : IsCodeOf flat code) where
   tables : HasTables m code
   tables = record {
-    globals = ap (λ v. v.items) (is.generated.globals ∙ is.made.globals) ∙ made.lays.globals;
+    globals = ap (λ v. v.items) (is.generated.globals ∙ is.made.globals) ∙ made.globals;
     granules = is.generated.granules ∙ is.made.granules ∙ made.granules;
     initial = ap (λ v. v.items) (is.generated.initial ∙ is.made.initial) ∙ made.initial;
     layouts = ap (λ v. v.items) (is.generated.layouts ∙ is.made.layouts) ∙ made.layouts;
@@ -49,7 +49,7 @@ module _ (alone : SomeAreAlone) (targets : TargetsAre) (globals_hold : GlobalsHo
 
   rows : (n : ℕ) (g : Function) → function_at m.typed n ≡ Some g → HasRow code n g
   rows n g at =
-      let r = row_at m (globals_of m.typed) flat.texts.items 0 (functions_in m.typed.program.items) (names_of (functions_in m.typed.program.items)) flat.functions.items made.lays.functions n g at in
+      let r = row_at m (globals_of m.typed) flat.texts.items 0 (functions_in m.typed.program.items) (names_of (functions_in m.typed.program.items)) flat.functions.items made.functions n g at in
       let pl = place (dropped (flat_of flat)) flat.lines.items in
       let count : length code.functions.items ≡ length flat.functions.items = ap (λ (list : List Row). length list) rows_are ∙ length-map flat.functions.items (entered_at pl) in
       record {

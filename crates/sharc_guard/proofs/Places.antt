@@ -34,4 +34,6 @@ module _ (dropped : ℕ → Bool) (flat : Flat) where
   place_next pc o h = sym (next_at dropped flat pc o h) ∙ ap (λ l. pl pc + length l) (same pc o)
 
   pub place_of : (pc : ℕ) (o : Op) (s : Spot) → slice_get flat.lines pc ≡ Some o → spot_of o ≡ Some s → IsPlaceOf s (source_at (guarded dropped flat) pc)
-  place_of pc o s h e = subst (IsPlaceOf s) (sym (source_of_line dropped flat pc o h)) (source_is o s e)
+  place_of pc o s h e =
+      let w = source_is o s e in
+      subst (IsPlaceOf s) (sym (source_of_line dropped flat pc o h)) (record { site = w.site; mode = w.mode; at = w.at })

@@ -20,6 +20,7 @@ use Rattle.sharc_code.specs.declared.instr.Instr.TheVariants.{Clear, Give, Free,
 use Rattle.sharc_code.specs.declared.instr.Instr.TheVariants.{Start, Exit, CondEnter, CondWait, CondSignal}
 use Rattle.sharc_code.specs.declared.instr.Instr.TheVariants.{CondBroadcast}
 use Rattle.sharc_code.specs.Says.{no_place}
+use Rattle.sharc_flat.specs.declared.flat.LineTexts.{LineTexts}
 use Rattle.sharc_flat.specs.{declared.op.Op.Op, declared.op.Spot.Spot, Machine.Flat}
 use Rattle.sharc_flat.specs.declared.op.Op.TheVariants as op
 use Rattle.sharc_guard.specs.Machine.{Program}
@@ -62,6 +63,20 @@ source_of (op.Spawn i f from spot) = source_at_spot spot
 source_of (op.Join i spot) = source_at_spot spot
 source_of (op.Print i spot) = source_at_spot spot
 source_of _ = no_place
+
+-- a site with where its texts lie
+abbrev pub with_texts : LineTexts → SourcePlace → SourcePlace
+with_texts told place = record place { lvalue = told.lvalue; lock = told.lock }
+
+abbrev pub site_by : Option LineTexts → Op → SourcePlace
+site_by None o = source_of o
+site_by (Some told) o = with_texts told (source_of o)
+
+-- those of all lines
+abbrev pub sites_of : List Op → List LineTexts → List SourcePlace
+sites_of [] told = []
+sites_of (o ∷ os) [] = site_by None o ∷ sites_of os []
+sites_of (o ∷ os) (t ∷ ts) = site_by (Some t) o ∷ sites_of os ts
 
 -- ---- checks
 -- the check of an access at line n, of a mode; that of a dynamic cell may be dropped
@@ -196,5 +211,5 @@ guarded dropped flat = let pl = place dropped flat.lines in record {
   statements = Start 0 ∷ Exit ∷ expanded pl dropped 0 flat.lines;
   functions = map (entered_at pl) flat.functions;
   globals = flat.globals;
-  sites = map source_of flat.lines;
+  sites = sites_of flat.lines flat.told;
 }

@@ -34,7 +34,7 @@ row_parameter m flat made code is f =
     let pl = place (dropped (flat_of flat)) flat.lines.items in
     ap (λ v. (slice_index_or v.items f no_function).parameter) is.generated.functions
     ∙ ap (λ (rows : List Row). (slice_index_or rows f no_function).parameter) is.made.functions ∙ entered_parameter pl flat.functions.items f
-    ∙ named_parameter flat.texts.items (rows_of m gs 0 fs) (names_of fs) flat.functions.items f made.lays.functions
+    ∙ named_parameter flat.texts.items (rows_of m gs 0 fs) (names_of fs) flat.functions.items f made.functions
 
 takes_pointer : (m : Assignment) (flat : FlatCode) → Flattens m flat → (code : Code) → IsCodeOf flat code → (f : ℕ) → (function_of code f).parameter ≡ Parameter.Reference → has_pointer (function_at m.typed f) ≡ true
 takes_pointer m flat made code is f e = row_reference m (globals_of m.typed) 0 (functions_in m.typed.program.items) f (sym (row_parameter m flat made code is f) ∙ e)
