@@ -96,18 +96,18 @@ abbrev pub lies_at : List ℕ → Text → List ℕ
 lies_at bytes text = slice_range bytes text.from text.until
 
 -- the texts of an operation, by its spot; of one without a spot they are empty
-abbrev pub lvalue_words : Resolution → Option Spot → List ℕ
-lvalue_words r None = []
-lvalue_words r (Some spot) = words_of r spot.lvalue.from spot.lvalue.until
+abbrev pub lvalue_bytes : Resolution → Option Spot → List ℕ
+lvalue_bytes r None = []
+lvalue_bytes r (Some spot) = words_of r spot.lvalue.from spot.lvalue.until
 
-abbrev pub lock_words : Resolution → Option Spot → List ℕ
-lock_words r None = []
-lock_words r (Some spot) = lock_text_of r spot.mode spot.lvalue spot.lock_text
+abbrev pub lock_bytes : Resolution → Option Spot → List ℕ
+lock_bytes r None = []
+lock_bytes r (Some spot) = lock_text_of r spot.mode spot.lvalue spot.lock_text
 
 -- they lie where these say
 pub record AreTexts (r : Resolution) (bytes : List ℕ) (spot : Option Spot) (told : LineTexts) : Type 0 where
-  pub lvalue : lies_at bytes told.lvalue ≡ lvalue_words r spot
-  pub lock : lies_at bytes told.lock ≡ lock_words r spot
+  pub lvalue : lies_at bytes told.lvalue ≡ lvalue_bytes r spot
+  pub lock : lies_at bytes told.lock ≡ lock_bytes r spot
 
 -- those of each line
 abbrev pub AreTold : Resolution → List ℕ → List Op → List LineTexts → Type 0

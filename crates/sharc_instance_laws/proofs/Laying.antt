@@ -1,5 +1,5 @@
 -- Texts laid one behind the other: of the lines and the functions of flat code, and that each lies where it is said to lie.
-use Rattle.sharc_instance_laws.proofs.Imports.{◌≡◌, ℕ, ◌+◌, ◌-◌, List, [], ◌∷◌, ◌++◌, length, take, drop, refl, sym, ap, ◌∙◌, append_assoc, append-nil, length-append, arith, Function, Row, GlobalCells, Text, Resolution, Assignment, LineTexts, Op, function_code, rows_of, names_of, AreTold, AreNamed, lies_at, lock_words, lvalue_words, spot_in}
+use Rattle.sharc_instance_laws.proofs.Imports.{◌≡◌, ℕ, ◌+◌, ◌-◌, List, [], ◌∷◌, ◌++◌, length, take, drop, refl, sym, ap, ◌∙◌, append_assoc, append-nil, length-append, arith, Function, Row, GlobalCells, Text, Resolution, Assignment, LineTexts, Op, function_code, rows_of, names_of, AreTold, AreNamed, lies_at, lock_bytes, lvalue_bytes, spot_in}
 
 -- ---- one text among others
 drops : (pre y : List ℕ) → drop (length pre) (pre ++ y) ≡ y
@@ -26,11 +26,11 @@ lies bytes pre x post is =
 -- ---- lines
 module _ (r : Resolution) where
   abbrev pub behind_line : List ℕ → Op → List ℕ
-  behind_line pre o = (pre ++ lvalue_words r (spot_in o)) ++ lock_words r (spot_in o)
+  behind_line pre o = (pre ++ lvalue_bytes r (spot_in o)) ++ lock_bytes r (spot_in o)
 
   abbrev pub laid : List ℕ → List Op → List LineTexts
   laid pre [] = []
-  laid pre (o ∷ os) = record { lvalue = text_behind pre (lvalue_words r (spot_in o)); lock = text_behind (pre ++ lvalue_words r (spot_in o)) (lock_words r (spot_in o)) } ∷ laid (behind_line pre o) os
+  laid pre (o ∷ os) = record { lvalue = text_behind pre (lvalue_bytes r (spot_in o)); lock = text_behind (pre ++ lvalue_bytes r (spot_in o)) (lock_bytes r (spot_in o)) } ∷ laid (behind_line pre o) os
 
   abbrev pub behind_lines : List ℕ → List Op → List ℕ
   behind_lines pre [] = pre
@@ -40,15 +40,15 @@ module _ (r : Resolution) where
   further pre [] = ([], sym (append-nil pre))
   further pre (o ∷ os) =
       let w = further (behind_line pre o) os in
-      let x = lvalue_words r (spot_in o) in
-      let y = lock_words r (spot_in o) in
+      let x = lvalue_bytes r (spot_in o) in
+      let y = lock_bytes r (spot_in o) in
       (x ++ (y ++ w.0), w.1 ∙ append_assoc (pre ++ x) y w.0 ∙ append_assoc pre x (y ++ w.0))
 
   pub are_laid : (bytes pre : List ℕ) (os : List Op) (post : List ℕ) → bytes ≡ behind_lines pre os ++ post → AreTold r bytes os (laid pre os)
   are_laid bytes pre [] post is = tt
   are_laid bytes pre (o ∷ os) post is =
-      let x = lvalue_words r (spot_in o) in
-      let y = lock_words r (spot_in o) in
+      let x = lvalue_bytes r (spot_in o) in
+      let y = lock_bytes r (spot_in o) in
       let w = further (behind_line pre o) os in
       let all : bytes ≡ (pre ++ x) ++ (y ++ (w.0 ++ post)) = is ∙ ap (λ (l : List ℕ). l ++ post) w.1 ∙ append_assoc ((pre ++ x) ++ y) w.0 post ∙ append_assoc (pre ++ x) y (w.0 ++ post) in (
         record {
