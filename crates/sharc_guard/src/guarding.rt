@@ -3,7 +3,7 @@
 ghost use Rattle.std.specs.Prelude.{true, ◌≡◌, ◌≤◌, ◌<◌, ◌+◌, ◌*◌, ◌^◌, ℕ, ◌++◌, ◌∷◌, [], IfOk, OnOk, length, map, slice_get};
 ghost use Rattle.sharc_code.specs.{declared.instr.Instr.TheVariants.{Start, Exit}, Says.no_place};
 ghost use Rattle.sharc_flat.specs.Made.{flat_of};
-ghost use Rattle.sharc_guard.specs.Guard.{source_at_spot, source_of, site_by, sites_of, check_under, head};
+ghost use Rattle.sharc_guard.specs.Guard.{source_at_spot, spot_of, source_of, site_by, sites_of, check_under, head};
 ghost use Rattle.sharc_guard.specs.{Guard.{compute, negate, body, tail, own, expand, expanded, width, entered_at}};
 ghost use Rattle.sharc_guard.specs.Known.{dropped, is_straight};
 ghost use Rattle.sharc_guard.specs.Made.{IsMade, among, places, marked};
@@ -294,58 +294,25 @@ fn no_place() -> SourcePlace
     }
 }
 
-fn source_of(op: Op) -> SourcePlace
-    ensures { result ≡ source_of op }
+// What it is in the source, if it may stop, check or ask; the pointer to a mutex is readonly.
+fn spot_of(op: Op) -> Option<Spot>
+    ensures { result ≡ spot_of op }
 {
     match op {
-        Op::Call(_, _, _, spot)
-        | Op::Return(spot)
-        | Op::TakeCell(_, _, spot)
-        | Op::TakeLocal(_, _, spot)
-        | Op::Give(_, _, spot)
-        | Op::Free(_, _, spot)
-        | Op::Lock(_, spot)
-        | Op::Unlock(_, _, spot)
-        | Op::CondEnter(_, spot)
-        | Op::CondWait(_, spot)
-        | Op::Spawn(_, _, _, spot)
-        | Op::Join(_, spot) => source_at_spot(spot),
-        Op::Skip(_) | Op::SkipIfZero(_, _) | Op::SkipIfNull(_, _) | Op::Jump(_) | Op::BlockEnd => {
-            no_place()
-        }
-        _ => straight_source(op),
+        Op::LoadGuard(_, spot) => Some(Spot {
+            mode: PlaceMode::Readonly,
+            ..spot
+        }),
+        _ => op.spot(),
     }
 }
 
-// The same of an operation that ends no straight piece.
-fn straight_source(op: Op) -> SourcePlace
-    requires straight { is_straight op ≡ true }
+fn source_of(op: Op) -> SourcePlace
     ensures { result ≡ source_of op }
 {
-    match op {
-        Op::Compute(_, _, _, _, _, spot)
-        | Op::Negate(_, _, _, spot)
-        | Op::ChkWidth(_, _, spot)
-        | Op::ChkNull(_, spot)
-        | Op::ChkPositive(_, spot)
-        | Op::ChkHeld(_, spot)
-        | Op::ChkNotHeld(_, spot)
-        | Op::ChkRoom(spot)
-        | Op::Bounds(_, _, _, _, spot)
-        | Op::GlobalBounds(_, _, _, _, spot)
-        | Op::Load(_, _, spot)
-        | Op::Store(_, _, spot)
-        | Op::LoadRef(_, _, spot)
-        | Op::StoreRef(_, _, spot)
-        | Op::New(_, _, _, spot)
-        | Op::CondSignal(_, spot)
-        | Op::CondBroadcast(_, spot)
-        | Op::Print(_, spot) => source_at_spot(spot),
-        Op::LoadGuard(_, spot) => SourcePlace {
-            mode: PlaceMode::Readonly,
-            ..source_at_spot(spot)
-        },
-        _ => no_place(),
+    match spot_of(op) {
+        None => no_place(),
+        Some(spot) => source_at_spot(spot),
     }
 }
 
