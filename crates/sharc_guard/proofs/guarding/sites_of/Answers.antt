@@ -1,4 +1,4 @@
-use Rattle.sharc_guard.proofs.{Imports.{slice_get-get_or, ◌≡◌, ◌∷◌, ◌++◌, [], ap, ◌∙◌, arith, get_or, take, take_all, Op, sites_of}, Making.site_more}
+use Rattle.sharc_guard.proofs.{Imports.{slice_get-get_or, ◌∷◌, ◌++◌, [], ap, ◌∙◌, arith, get_or, take, take_all, Op, sites_of}, Making.site_more}
 use Rattle.sharc_guard.proofs.guarding.sites_of.Goals as goal
 
 pub loop-n-preserved : goal.loop-n-preserved
