@@ -1,7 +1,8 @@
 -- The code of typed flat code is typed.
 use Rattle.std.specs.{Prelude.{ℕ, ◌≡◌, Bool, map}, List.AllByRecursion}
 use Rattle.sharc_code.specs.{declared.code.Code.Code, Says.place_at}
-use Rattle.sharc_flat.specs.{declared.flat.{Flat.Flat as FlatCode, LineTexts.LineTexts}, declared.op.Op.Op, Machine.Flat, Made.flat_of}
+use Rattle.sharc_flat.specs.{declared.flat.{Flat.Flat as FlatCode, LineTexts.LineTexts}, declared.op.Op.Op, Machine.Flat}
+use Rattle.sharc_flat.specs.Made.{flat_of}
 use Rattle.sharc_flat.specs.declared.op.Op.TheVariants as op
 use Rattle.sharc_compile.specs.{Generated.instr_of, Made.IsCodeOf}
 use Rattle.sharc_guard.specs.{Guard.{expand, source_of, with_texts}, Known.dropped}
@@ -22,7 +23,7 @@ LeadsOn o = Unit {0}
 -- before the next one.
 abbrev pub PiecesAreTyped : Type 0
 PiecesAreTyped = (x : Targets) (code : Code) (ls : Labels) (lines : ℕ) (dropped : Bool) (type : StaticType) (n : ℕ)
-    (l k : Label) (o : Op) (pl : ℕ → ℕ) {told : LineTexts}
+    (l k : Label) (o : Op) (pl : ℕ → ℕ) (told : LineTexts)
     → LeadsOn o → place_at code n ≡ with_texts told (source_of o) → TypedLine x code ls lines dropped type n l k o
     → Chain x code ls (inside x dropped type o l) (map (instr_of code.functions.items) (expand pl dropped n o)) k
 
