@@ -1,5 +1,5 @@
 -- What the threads of a run report, among the events of all threads.
-use Rattle.sharc_compile_laws.proofs.Imports.{◌≡◌, ℕ, ℤ, ◌+◌, ◌<◌, inl, inr, ⊎_elim, Bool, true, false, cond, List, [], ◌∷◌, ◌++◌, length, map, reverse, refl, sym, ap, ◌∙◌, subst, arith, slice_get, nat_tests, append-nil, reverse-reverse, filter-append, ◌==◌, nat_eq, filter, slice_index_or, SourceEvent, function_at, functions_in, Assignment, events_of, is_of, asks, IsNamedAt, answers_of, by, Code, Row, no_function, Said, said_by, Erase, FlatCode, flat_of, rows_of, names_of, Flattens, globals_of, entered_at, place, dropped, begins, program_of, told_in, IsCodeOf, RunsFollowSource, FollowsSource, TellsIn, ThreadsTell, reverse_cons, AreOf, IsFirstOf, OwnAreTold, same_test}
+use Rattle.sharc_compile_laws.proofs.Imports.{◌≡◌, ℕ, ℤ, ◌<◌, inl, inr, ⊎_elim, Bool, true, false, cond, List, [], ◌∷◌, ◌++◌, length, map, reverse, refl, sym, ap, ◌∙◌, subst, arith, slice_get, nat_tests, append-nil, reverse-reverse, filter-append, ◌==◌, nat_eq, filter, slice_index_or, SourceEvent, function_at, functions_in, Assignment, events_of, is_of, asks, IsNamedAt, answers_of, by, Code, Row, no_function, Said, said_by, Erase, FlatCode, flat_of, rows_of, names_of, Flattens, globals_of, entered_at, place, dropped, begins, program_of, told_in, IsCodeOf, RunsFollowSource, FollowsSource, TellsIn, ThreadsTell, reverse_cons, AreOf, IsFirstOf, OwnAreTold, same_test}
 use Rattle.sharc_flat_lemmas.proofs.{Functions.{are_rows, row_of, rows_as_many}, Laid.{mapped_same, rows_many, rows_same}}
 use Rattle.sharc_lemmas.proofs.{Lists.some_there, Numbers.same_test}
 
@@ -88,10 +88,10 @@ started_at_name m flat made code is f argument known =
     let pl = place (dropped (flat_of flat)) flat.lines.items in
     let rows = rows_of m gs 0 fs in
     let are = are_rows m gs 0 fs in
-    let x = some_there fs f (omega (arith, known, rows_as_many m gs 0 fs rows are, rows_many flat.texts.items rows (names_of fs) flat.functions.items made.lays.functions)) in
+    let x = some_there fs f (omega (arith, known, rows_as_many m gs 0 fs rows are, rows_many flat.texts.items rows (names_of fs) flat.functions.items made.functions)) in
     let site : (begins (program_of is.g) f argument).site ≡ (slice_index_or rows f no_function).site =
     ap (λ (rows : List Row). (slice_index_or rows f no_function).site) is.made.functions ∙ mapped_same (λ row. row.site) (entered_at pl) (λ row. refl) flat.functions.items f
-    ∙ rows_same (λ row. row.site) (λ row name. refl) flat.texts.items rows (names_of fs) flat.functions.items made.lays.functions f
+    ∙ rows_same (λ row. row.site) (λ row name. refl) flat.texts.items rows (names_of fs) flat.functions.items made.functions f
     in
     subst (IsNamedAt (slice_get fs f)) (sym site) (subst (λ o. IsNamedAt o (slice_index_or rows f no_function).site) (sym x.1) (row_of m gs 0 fs rows are f x.0 x.1).site)
 
