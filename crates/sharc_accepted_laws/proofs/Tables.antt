@@ -3,7 +3,7 @@ use Rattle.sharc_accepted_laws.proofs.Imports.{◌≡◌, ℕ, pos, ◌+◌, ◌
 use Rattle.sharc_tree.specs.{declared.token.Number.Number, declared.tree.item.GlobalForm.TheVariants.Initial}
 use Rattle.sharc_compile.specs.Made.{IsCodeOf}
 use Rattle.sharc_flat_lemmas.proofs.{Functions.{are_rows, row_of, rows_as_many}, Laid.{mapped_same, rows_many, rows_same}}
-use Rattle.sharc_lemmas.proofs.Lists.there_is
+use Rattle.sharc_lemmas.proofs.Lists.{there_is}
 
 -- ---- constants
 counted : (k : Number) (n : ℕ) → k.value ≡ pos n → IsCounted (Constant.Number k)

@@ -1,5 +1,5 @@
 -- What flattened code spawns, where it waits, and its tables.
-use Rattle.sharc_flat_laws.proofs.{Imports.{◌≡◌, ℕ, zero, suc, ◌+◌, ◌^◌, ◌<◌, ◌≤◌, List, [], ◌∷◌, length, Option, Some, refl, sym, ap, ◌∙◌, subst, arith, slice_get, Contains-append_right, IsSomeAnd, slice_index, AllByRecursion, Contains, expressions_in, Expression, spawn, Function, Named, Row, GlobalCells, GlobalsFit, of_all, spawns, Resolution, function_at, functions_in, globals_in, named_at, MeetsGlobals, SpawnsByName, SpawnsNameFunctions, SpawnsThreads, WithinLimits, number_named, Assignment, Op, functions_code, rows_of, function_code, names_of, AreNamed, globals_of, SpawnMeets, IsSpawned, MadeSpawns, MadeTablesFit, inside}, Spawning.{AllMeet, OpMeets, functions_meet}, Words.{words, globals_fit}}
+use Rattle.sharc_flat_laws.proofs.{Imports.{◌≡◌, ℕ, zero, suc, ◌+◌, ◌^◌, ◌<◌, ◌≤◌, List, [], ◌∷◌, length, Option, Some, refl, sym, ap, ◌∙◌, subst, arith, slice_get, Contains-append_right, IsSomeAnd, slice_index, AllByRecursion, Contains, expressions_in, Expression, spawn, Function, Named, Row, GlobalCells, GlobalsFit, of_all, spawns, Resolution, function_at, functions_in, globals_in, named_at, MeetsGlobals, SpawnsByName, SpawnsNameFunctions, SpawnsThreads, WithinLimits, number_named, Assignment, Op, functions_code, rows_of, function_code, names_of, AreNamed, globals_of, SpawnMeets, IsSpawned, MadeSpawns, MadeTablesFit, inside}, Spawning.{AllMeet, functions_meet}, Words.{words, globals_fit}}
 use Rattle.sharc_flat_laws.specs.Tables.{AllWait, MadeIsPast, MadeWaits, NamesGlobal, OpPast}
 
 -- ---- lists

@@ -1,8 +1,8 @@
 -- Rows with the names of their functions where they lie, beside those without.
 use Rattle.std.proofs.Common.{List, [], ap, length, map, refl, suc, zero, ℕ, ◌∙◌, ◌∷◌, ◌≡◌}
-use Rattle.std.specs.Prelude.slice_index_or
+use Rattle.std.specs.Prelude.{slice_index_or}
 use Rattle.sharc_code.specs.{Machine.no_function, declared.code.Function.{Function as Row}, declared.code.Text.Text}
-use Rattle.sharc_flat.specs.Laid.AreNamed
+use Rattle.sharc_flat.specs.Laid.{AreNamed}
 
 pub rows_many : (bytes : List ℕ) (xs : List Row) (ns : List (List ℕ)) (ys : List Row) → AreNamed bytes xs ns ys → length xs ≡ length ys
 rows_many bytes [] [] [] h = refl

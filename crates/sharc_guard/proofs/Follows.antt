@@ -1,5 +1,5 @@
 -- One operation of flat code and its own guarded statement.
-use Rattle.sharc_guard.proofs.{Imports.{◌≡◌, ℕ, ℤ, zero, suc, pos, negsuc, ◌+◌, ◌*◌, ◌<◌, ◌⊎◌, inl, inr, Bool, true, false, not, List, [], ◌∷◌, ◌++◌, length, map, refl, sym, ap, ◌∙◌, subst, arith, Some, None, Option, Result, Ok, Err, nat_lt, slice_get, nat_tests, ne_eqb, length-append, length-map, append-nil, nat_eq, if◌then◌else◌, Act, CellAt, CellMode, SourceEvent, Trap, Taken, Function, SourcePlace, Width, Char, Int, Cell, Object as InObject, ObjectAt, Register, Instr, Operator, computed, negated, elements_made, kind_of, made_cell, Readonly, is_positive as positive, GivenUp, Released, Replaced, Emptied, held_mutexes, locked_by, unlocked_by, NULL, is_null, number_of, stopped, ended, event_of, answer_of, Op, Spot, goes, asks, halts, op_turn, after, IsFlat, Leads, IsWide, Program, Thread, Phase, Running, Leaving, Left, Goes, Asks, Halts, Stopped, step, source_at, statement_at, weight, source_of, source_at_spot, compute, negate, body, tail, Resolved, bottom, image, LineTexts, with_texts}, Holding.{quiet_held, lock_held, unlock_held, funext}, Placing.{HasAt, entered_is, pl, p}, Beside.{variable_same, kind_same}}
+use Rattle.sharc_guard.proofs.{Imports.{◌≡◌, ℕ, ℤ, zero, suc, pos, negsuc, ◌+◌, ◌*◌, ◌<◌, ◌⊎◌, inl, inr, Bool, true, false, not, List, [], ◌∷◌, ◌++◌, length, map, refl, sym, ap, ◌∙◌, subst, arith, Some, None, Option, Result, Ok, Err, nat_lt, slice_get, nat_tests, ne_eqb, length-append, length-map, append-nil, nat_eq, if◌then◌else◌, Act, CellAt, CellMode, SourceEvent, Trap, Taken, Function, SourcePlace, Width, Char, Cell, Object as InObject, ObjectAt, Register, Instr, Operator, computed, negated, elements_made, kind_of, made_cell, Readonly, is_positive as positive, GivenUp, Released, Replaced, Emptied, held_mutexes, locked_by, unlocked_by, NULL, is_null, number_of, stopped, ended, event_of, answer_of, Op, Spot, goes, asks, halts, op_turn, after, IsFlat, Leads, IsWide, Program, Thread, Phase, Running, Leaving, Left, Goes, Asks, Halts, Stopped, step, source_at, statement_at, weight, source_of, source_at_spot, compute, negate, body, tail, Resolved, bottom, image, LineTexts, with_texts}, Holding.{quiet_held, lock_held, unlock_held, funext}, Placing.{HasAt, entered_is, pl, p}, Beside.{variable_same, kind_same}}
 use Rattle.sharc_code.specs.{Machine.is_positive, Says.variable_of, Runs.put}
 use Rattle.sharc_flat.specs.Machine as Flat
 use Rattle.sharc_guard.specs.Machine as Form

@@ -1,5 +1,5 @@
 -- What the proofs cite of std, of other crates and of this crate's definitions, passed on from one place.
-pub use Rattle.std.proofs.{Common.{Bool, Err, IfOk, List, None, Ok, Option, Result, Some, [], ap, append-nil, append_assoc, arith, cond, drop, false, filter, fold, get_or, inl, inr, length, map, max, nat_lt, negsuc, not, pos, refl, replicate, slice_get, subst, suc, sym, take, true, zero, ℕ, ℤ, ⊎_elim, ◌&&◌, ◌*◌, ◌++◌, ◌+◌, ◌-◌, ◌<◌, ◌^◌, ◌||◌, ◌∙◌, ◌∷◌, ◌≡◌, ◌≢◌, ◌≤◌, ◌⊎◌}, Math.Seq.get_or-append_seam, lemmas.Bool.{and_from as and_both, cases_eq, cases_lt, le-ltb, lt-ltb, ltb-false, ltb-true, ne_eqb, not_from_false as true_not, or_left, or_right}, lemmas.Bool.Decides.nat_tests, lemmas.List.{drop_all, get_or-map, get_or-replicate, get_or_append_left, get_or_past, get_or_push, get_or_read, length-append, length-map, length-replicate, length_push, take_all, take_more}, lemmas.Option.{get_or_from_slice_get, slice_get-get_or, slice_get_past, slice_get_read}}
+pub use Rattle.std.proofs.{Common.{Bool, Err, IfOk, List, None, Ok, Option, Result, Some, [], ap, append-nil, append_assoc, arith, cond, drop, false, filter, fold, get_or, inl, inr, length, map, max, nat_lt, negsuc, not, pos, refl, replicate, slice_get, subst, suc, sym, take, true, zero, ℕ, ℤ, ⊎_elim, ◌&&◌, ◌*◌, ◌++◌, ◌+◌, ◌-◌, ◌<◌, ◌^◌, ◌||◌, ◌∙◌, ◌∷◌, ◌≡◌, ◌≢◌, ◌≤◌, ◌⊎◌}, Math.Seq.get_or-append_seam, lemmas.Bool.{and_from as and_both, cases_eq, cases_lt, le-ltb, lt-ltb, ltb-false, ltb-true, ne_eqb, not_from_false as true_not, or_left, or_right}, lemmas.Bool.Decides.nat_tests, lemmas.List.{drop_all, get_or-map, get_or-replicate, get_or_append_left, get_or_past, get_or_push, get_or_read, length-append, length-map, length-replicate, length_push, take_all, take_more}, lemmas.Option.{get_or_from_slice_get, slice_get-get_or, slice_get_past}}
 pub use Rattle.std.specs.{List.list_any, Prelude.{OnOk, if◌then◌else◌, nat_eq, nat_le, slice_index, ◌==◌}}
 pub use mathlib.Core.Path.{fun_ext}
 pub use Rattle.sharc_lemmas.proofs.{Bools.{and_false, and_left, and_right, and_true, false_true, not_true, or_assoc, or_false, or_split as or_either}, Lists.{there_is as within}, Numbers.{eqb_other, is_below as lt_true, le_true2 as le_true, same_is as eqb_same, same_number as eq_true}, Options.{same_some as some_is}}

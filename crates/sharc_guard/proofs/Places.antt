@@ -1,5 +1,5 @@
 -- Where the pieces of guarded code lie, and what the site of a line says.
-use Rattle.sharc_guard.proofs.{Imports.{◌≡◌, ℕ, Bool, ◌+◌, List, ◌++◌, length, Option, Some, sym, ap, ◌∙◌, subst, append_assoc, slice_get, SourcePlace, Instr, Op, Spot, Flat, source_at, spot_of, source_by, place, guarded, source_of, head, own, body, tail, expand}, Placing.{HasAt, stands as stands_at, place_next as next_at, source_is as source_of_line}}
+use Rattle.sharc_guard.proofs.{Imports.{◌≡◌, ℕ, Bool, ◌+◌, List, ◌++◌, length, Option, Some, sym, ap, ◌∙◌, subst, append_assoc, slice_get, SourcePlace, Instr, Op, Spot, Flat, source_at, spot_of, source_by, place, guarded, head, own, body, tail, expand}, Placing.{HasAt, stands as stands_at, place_next as next_at, source_is as source_of_line}}
 
 -- ---- sites
 pub record IsPlaceOf (s : Spot) (p : SourcePlace) : Type 0 where

@@ -30,7 +30,7 @@ keeps_noted : (m m' : Machine) → is_withdrawing m.own.stage ≡ false → is_e
 keeps_noted m m' calm going h kind p =
     noted_calm m' h.stage h.ended kind p ∙ ap (λ tb. note_number (note_of tb p kind)) h.table ∙ sym (noted_calm m calm going kind p)
 
-with_note_stage : (o : Own) (p : ℕ) (kind : Kind) (e site : ℕ) → (with_note o p kind e site).stage ≡ o.stage
+pub with_note_stage : (o : Own) (p : ℕ) (kind : Kind) (e site : ℕ) → (with_note o p kind e site).stage ≡ o.stage
 with_note_stage o p kind e site = elim (is_some (site_at (note_of o.table p kind) e)) as (λ b. (cond b o (record o { table = noted o.table p kind record { epoch = e; site = site } })).stage ≡ o.stage) [ true ↦ refl | false ↦ refl ]
 
 still_is : (k kind : Kind) (f : ℕ → ℕ) (p n : ℕ) → f p ≡ n → (if same_kind k kind then put f p n p else f p) ≡ n
@@ -54,7 +54,7 @@ from_new : (P : ℕ → ℕ → ℕ → Type 0) (Q : Type 0) (i : Instr) → ((r
 from_new P Q (Instr.New r count cells site) f h = f r count cells h
 from_new P Q _ f h = absurd h
 
-from_spawn : (P : ℕ → Register → Type 0) (Q : Type 0) (i : Instr) → ((f : ℕ) (from : Register) → P f from → Q) → OnSpawn P i → Q
+pub from_spawn : (P : ℕ → Register → Type 0) (Q : Type 0) (i : Instr) → ((f : ℕ) (from : Register) → P f from → Q) → OnSpawn P i → Q
 from_spawn P Q (Instr.Spawn r f from site) k h = k f from h
 from_spawn P Q _ k h = absurd h
 

@@ -1,5 +1,5 @@
 -- The turns of a New before its last: the world stays, and a word of the thread's own block or the top may change.
-use Rattle.sharc_invariant.proofs.{Imports.{◌≡◌, ℕ, zero, suc, ◌+◌, ◌^◌, ◌<◌, ◌≤◌, ◌≢◌, Bool, true, false, cond, List, Option, None, Some, refl, sym, ap, ◌∙◌, subst, ⊎_elim, arith, cases_order, length-set, fun_ext, length, slice_index, slice_set, ◌==◌, THREADS, note_of, epoch_of, Kind, Read, Write, Code, Shape, StateOf, RunsOn, Tries, Stopped, Ended, Stop, Stage, Rests, Makes, Lowers, Links, Names, Hands, Begins, Withdraws, WithdrawsFrom, Leaves, Fits as FitsShape, granules, top_word, Machine, instr_at, may_go, counted, Turn, Global, put, MayTurn, one_thread, bounds, Instr, put_other, put_all, sum_to, Targets, Label, Labels, Fine, IsWellTyped, World, Shut, Heap, Kept, Built, InBlock, IsListed, conc_of, Shows, head_of, is_ended, has_withdrawn, note_number, noted_by, register_of, staged_of, made_turn, KeepsOthers, StopStands, State, StageStands, SpawnsNow, FramesStand, GateStands, HeapStands, TopStands, label_now}, TurnAt.{turn_at, turn_stands}, Listed.{store_ok, within_block, in_use}, Others.OnHold, Quiet.{heap_now, put_self, sum_up, label_held, freed_held, locks_same, heap_stays, sizes_kept}, Changes.{KeepsPart, KeepsLower, conc_now, changed_state}, Stores.{index_put, arena}, Heaps.{apart_stored, built_size, block_word, low_block, built_dead}, Plain.others_stay, Own.begun_in}
+use Rattle.sharc_invariant.proofs.{Imports.{◌≡◌, ℕ, zero, suc, ◌+◌, ◌^◌, ◌<◌, ◌≤◌, ◌≢◌, Bool, true, false, cond, List, Option, None, Some, refl, sym, ap, ◌∙◌, subst, ⊎_elim, arith, cases_order, length-set, fun_ext, length, slice_index, slice_set, ◌==◌, THREADS, note_of, epoch_of, Kind, Read, Write, Code, Shape, StateOf, RunsOn, Tries, Stopped, Ended, Stop, Stage, Rests, Makes, Fits as FitsShape, granules, top_word, Machine, instr_at, may_go, counted, Turn, Global, put, MayTurn, one_thread, bounds, Instr, put_other, put_all, sum_to, Targets, Label, Labels, Fine, IsWellTyped, World, Shut, Heap, Kept, Built, InBlock, IsListed, conc_of, Shows, head_of, is_ended, has_withdrawn, note_number, noted_by, register_of, staged_of, made_turn, KeepsOthers, StopStands, State, StageStands, SpawnsNow, FramesStand, GateStands, HeapStands, TopStands, label_now}, TurnAt.{turn_at, turn_stands}, Listed.{store_ok, within_block, in_use}, Others.OnHold, Quiet.{heap_now, put_self, sum_up, label_held, freed_held, locks_same, heap_stays, sizes_kept}, Changes.{KeepsPart, KeepsLower, conc_now, changed_state}, Stores.{index_put, arena}, Heaps.{apart_stored, built_size, block_word, low_block, built_dead}, Plain.others_stay, Own.begun_in}
 
 abbrev pub IsMaking : Stage → Type 0
 IsMaking Rests = Unit {0}

@@ -11,22 +11,22 @@ refused_is : (b : Bool) → cond b false true ≡ false → b ≡ true
 refused_is true e = refl
 refused_is false e = absurd (cc)
 
-abbrev Parts : Touch → Kind → ℕ → Bool → Type 0
+abbrev pub Parts : Touch → Kind → ℕ → Bool → Type 0
 Parts (CheckOf kind' p' ok') kind p ok = (kind' ≡ kind) × (p' ≡ p) × (ok' ≡ ok)
 Parts _ kind p ok = ⊥
 
-parts : (y : Touch) (kind : Kind) (p : ℕ) (ok : Bool) → y ≡ CheckOf kind p ok → Parts y kind p ok
+pub parts : (y : Touch) (kind : Kind) (p : ℕ) (ok : Bool) → y ≡ CheckOf kind p ok → Parts y kind p ok
 parts y kind p ok e = subst (λ y. Parts y kind p ok) (sym e) (refl, refl, refl)
 
-no_clear : (s : Shape) (h : ℕ) (y : Stage) (kind : Kind) (p : ℕ) (ok : Bool) → Parts (cleared_by s h y) kind p ok → ⊥
+pub no_clear : (s : Shape) (h : ℕ) (y : Stage) (kind : Kind) (p : ℕ) (ok : Bool) → Parts (cleared_by s h y) kind p ok → ⊥
 no_clear s h (Clears done all seen) kind p ok z = z
 no_clear s h _ kind p ok z = z
 
-no_free : (s : Shape) (h : ℕ) (y : Stage) (kind : Kind) (p : ℕ) (ok : Bool) → Parts (freed_by s h y) kind p ok → ⊥
+pub no_free : (s : Shape) (h : ℕ) (y : Stage) (kind : Kind) (p : ℕ) (ok : Bool) → Parts (freed_by s h y) kind p ok → ⊥
 no_free s h (FreeClears done elements seen) kind p ok z = z
 no_free s h _ kind p ok z = z
 
-no_exit : (s : Shape) (m : Machine) (found : ℕ) (y : Stage) (kind : Kind) (p : ℕ) (ok : Bool) → Parts (withdrawn_by s m found y) kind p ok → ⊥
+pub no_exit : (s : Shape) (m : Machine) (found : ℕ) (y : Stage) (kind : Kind) (p : ℕ) (ok : Bool) → Parts (withdrawn_by s m found y) kind p ok → ⊥
 no_exit s m found (WithdrawsFrom row seen) kind p ok z =
     ⊎_elim
     (λ (e : nat_eq found seen ≡ true). subst (λ b. Parts (cond b (WithdrawOf (granule_at s (row_of m row))) Untouched) kind p ok) e z)

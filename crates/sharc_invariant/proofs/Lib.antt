@@ -35,7 +35,6 @@ pub mod Cells
 pub mod Checks
 pub mod CheckTurns
 pub mod Scoped
-pub mod Sampled
 pub mod Obeyed
 pub mod Rights
 pub mod Accesses

@@ -1,5 +1,5 @@
 -- A mutex is taken or given back: what the words and the logs then show of the world, and who holds which.
-use Rattle.sharc_invariant.proofs.{Imports.{◌≡◌, ℕ, suc, ◌+◌, ◌<◌, ◌≢◌, true, List, sym, ap, ◌∙◌, subst, ⊎_elim, arith, ◌↔◌, is_some, Contains, THREADS, HeldMutex, object_of, Shape, Machine, Global, put, put_same, put_other, put_all, Targets, Content, field_in, is_mutex, Integer, TypedReference, Slot, LogOf, In, World, place, put2, MachineView, Shows, Apart, FitsContent, Reads, shadow_at, count_at, length_at, cell_at, store, made_turn, Locks}, Effects.{place_same, place_other}, Seen.{pointer_no_mutex, put2_at, put2_off, set_cell, holder_stored}, Listed.pair_cases}
+use Rattle.sharc_invariant.proofs.{Imports.{◌≡◌, ℕ, suc, ◌<◌, ◌≢◌, true, List, refl, sym, ap, ◌∙◌, subst, ⊎_elim, ◌↔◌, is_some, Contains, THREADS, HeldMutex, object_of, Shape, Machine, Global, put_all, Targets, Content, field_in, is_mutex, Integer, TypedReference, Slot, LogOf, In, World, place, put2, MachineView, Shows, Apart, FitsContent, cell_at, store, made_turn, Locks}, Effects.{place_same, place_other}, Seen.{pointer_no_mutex, put2_at, put2_off, cell_cell, set_cell, holder_stored}, Listed.pair_cases}
 
 mutex_fits : (h : Content) (v : ℕ) → is_mutex h ≡ true → FitsContent h v
 mutex_fits (Integer w) v e = absurd (cc)

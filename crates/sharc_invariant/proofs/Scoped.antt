@@ -1,5 +1,5 @@
 -- What is known behind a change is scoped where it was before, and a label says no more than itself.
-use Rattle.sharc_invariant.proofs.{Imports.{◌≡◌, ℕ, ◌<◌, ◌≤◌, ◌⊎◌, ◌≢◌, Bool, true, false, cond, List, [], ◌∷◌, refl, sym, ap, ◌∙◌, subst, inl, inr, ⊎_elim, arith, eqb-false, nat_eq, Width, Int, put, put_same, put_other, put_all, Lock, StaticType, Mentions, Through, Entry, Empty, Refers, Number, Anything, Within, OfElement, Gate, Closed, SoleGate as Sole, Label, Itself, IsCopy, SameLock, AllSame, LessEntry, Narrower, LessNumber, LessGate, Less, EntryMentions, HasBase, IsScoped, set_number, fill, empty, gated, knows, without_copies, without_index}, Frames.kept_pass}
+use Rattle.sharc_invariant.proofs.{Imports.{◌≡◌, ℕ, ◌<◌, ◌≤◌, ◌⊎◌, ◌≢◌, Bool, true, false, cond, List, [], ◌∷◌, refl, sym, ap, ◌∙◌, subst, inl, inr, ⊎_elim, arith, eqb-false, nat_eq, Width, Int, put, put_same, put_other, put_all, Lock, StaticType, Mentions, Through, Entry, Empty, Refers, Number, Anything, Within, OfElement, Gate, Closed, SoleGate as Sole, Label, Itself, IsCopy, SameLock, AllSame, LessEntry, Narrower, LessNumber, LessGate, Less, EntryMentions, HasBase, IsScoped, set_number, fill, empty, gated, without_copies, without_index}, Frames.kept_pass}
 
 -- ---- less than itself
 same_lock_refl : (l : Label) (r : ℕ) (a : Lock) → SameLock l r a a
@@ -43,31 +43,6 @@ less_refl l = record {
 -- ---- scoped as before
 pub scoped_gate : (ints refs : ℕ) (l : Label) (g : Gate) → IsScoped ints refs l → IsScoped ints refs (gated l g)
 scoped_gate ints refs l g h = record { few = h.few; paths = h.paths; copies = h.copies; bases = h.bases; known = h.known; passes = h.passes; numbers = h.numbers }
-
-pub scoped_room : (ints refs : ℕ) (l : Label) (b : Bool) → IsScoped ints refs l → IsScoped ints refs (record l { room = b })
-scoped_room ints refs l b h = record { few = h.few; paths = h.paths; copies = h.copies; bases = h.bases; known = h.known; passes = h.passes; numbers = h.numbers }
-
-pub scoped_knows : (ints refs : ℕ) (l : Label) (r : ℕ) → l.env r ≢ Empty → IsScoped ints refs l → IsScoped ints refs (knows l r)
-scoped_knows ints refs l r ne h = record {
-  few = h.few;
-  paths = h.paths;
-  copies = h.copies;
-  bases = h.bases;
-  passes = h.passes;
-  numbers = h.numbers;
-  known = put_all (λ q b. b ≡ true → l.env q ≢ Empty) l.known r true (λ _. ne) (λ q _. h.known q);
-}
-
-pub scoped_forgets : (ints refs : ℕ) (l : Label) (r : ℕ) → IsScoped ints refs l → IsScoped ints refs (record l { known = put l.known r false })
-scoped_forgets ints refs l r h = record {
-  few = h.few;
-  paths = h.paths;
-  copies = h.copies;
-  bases = h.bases;
-  passes = h.passes;
-  numbers = h.numbers;
-  known = put_all (λ q b. b ≡ true → l.env q ≢ Empty) l.known r false (λ e. absurd (cc)) (λ q _. h.known q);
-}
 
 pub scoped_number : (ints refs : ℕ) (l : Label) (r : ℕ) (n : Number) → r < ints → ((b : ℕ) → HasBase n b → l.env b ≢ Empty) → IsScoped ints refs l → IsScoped ints refs (set_number l r n)
 scoped_number ints refs l r n lt base h = record {

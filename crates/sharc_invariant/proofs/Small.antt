@@ -1,7 +1,7 @@
 -- How many references there can be.
 use Rattle.sharc_invariant.proofs.{Imports.{◌≡◌, ℕ, ◌≤◌, ap, ◌∙◌, ⊎_elim, arith, cases_eq, one, sum_to, TypedReference, RegisterOf, ArgumentOf, LogOf, Staged, Slot, In, CellOf as Cell, Size, total, most_references}, Sums.{one_same, one_other}, Clears.{sum_bound as sum_low}}
 
-one_low : (x o : ℕ) → one x o ≤ 1
+pub one_low : (x o : ℕ) → one x o ≤ 1
 one_low x o = ⊎_elim
     (λ (e : x ≡ o). let y : one x o ≡ 1 = ap (λ n. one n o) e ∙ one_same o in omega arith)
     (λ (ne : x ≡ o → ⊥). let y = one_other x o ne in omega arith)

@@ -1,5 +1,5 @@
 -- Turns that try again, and those of conditions that no thread waits at.
-use Rattle.sharc_invariant.proofs.{Imports.{◌≡◌, ℕ, ℤ, pos, negsuc, ◌+◌, ◌^◌, ◌<◌, true, false, cond, ◌||◌, refl, sym, ap, ◌∙◌, subst, ⊎_elim, arith, or_lt, pow_below, fun_ext, bit_or, length, slice_index, slice_set, nat_lt, ◌==◌, THREADS, Load, Swap, Or, Code, Cell, Instr, Shape, Stop, Trap, Fits, state_word, Machine, Local, Asks, instr_at, int, word, goes, fails, stopped, joined, join, woken, step_of, turn, Turn, Global, MayTurn, one_thread, bounds, waits_in, put_same, Targets, Field, field_in, is_pointer, is_mutex, Waiters, Gate, Holds, LessGate, Closed, Labels, Leads, IsWellTyped, World, Shut, Sole, RegisterOf, in_ref, set_win, conc_of, Shows, FitsContent, cell_at, Silently, made_turn, State, GateStands, object_of_cell, number_in, Turned, HasCell, WordOp, word_after}, TurnAt.turn_at, Quiet.heap_now, Turns.{asks_turn, local_turn, room_of, unseen}, Own.{is_single, runs, rests, top, gate, fine, begun_before, runs_at, closed_less}, Plain.{resting, is_shut, plain_state, jump_state, stop_state, keeps_own}, Stores.{index_put, cell_store, stored_words, stored_within}, Seen.integer_stored, Cells.cell_there, Held.{held_gate, held_goes}, Accesses.{loaded_words, windowed_state, silent_window}, Frames.frames_same}
+use Rattle.sharc_invariant.proofs.{Imports.{◌≡◌, ℕ, ℤ, pos, negsuc, ◌+◌, ◌^◌, ◌<◌, true, false, cond, ◌||◌, refl, sym, ap, ◌∙◌, subst, ⊎_elim, arith, or_lt, pow_below, fun_ext, bit_or, length, slice_index, slice_set, nat_lt, ◌==◌, THREADS, Load, Swap, Or, Code, Cell, Instr, Shape, Stop, Trap, Fits, state_word, Machine, Local, Asks, instr_at, int, word, goes, fails, stopped, joined, join, woken, step_of, turn, Turn, Global, MayTurn, one_thread, bounds, waits_in, put_same, Targets, Field, field_in, is_pointer, is_mutex, Waiters, Gate, Holds, LessGate, Closed, Labels, Leads, IsWellTyped, World, Shut, Sole, set_win, conc_of, Shows, FitsContent, cell_at, Silently, made_turn, State, GateStands, object_of_cell, number_in, Turned, HasCell, WordOp, word_after}, TurnAt.turn_at, Quiet.heap_now, Turns.{asks_turn, local_turn, room_of, unseen}, Own.{is_single, runs, rests, top, gate, fine, begun_before, runs_at, closed_less}, Plain.{resting, is_shut, plain_state, jump_state, stop_state, keeps_own}, Stores.{index_put, cell_store, stored_words, stored_within}, Seen.integer_stored, Cells.cell_there, Held.{held_gate, held_goes}, Accesses.{loaded_words, windowed_state, silent_window}, Frames.frames_same}
 use Rattle.sharc_tree.specs.declared.trap.Trap.TheVariants as traps
 
 module _ (x : Targets) (code : Code) (s : Shape) (ls : Labels) (wt : IsWellTyped x code ls) (fits : Fits code s) (g : Global Machine) (world : World) (st : State x code s ls g world) (tr : Turn)

@@ -13,7 +13,6 @@ use Rattle.sharc_invariant.specs.{Effect.{Effect, events_of, NoneOf}, History.{E
 use Rattle.sharc_invariant.specs.Opened.{first_world, first_place}
 use Rattle.sharc_invariant.specs.Objects.{changes_objects, objects_now, objects_after}
 use Rattle.sharc_invariant.specs.{MachineInvariant.{MachineInvariant, IsOn}, Bits.{marks_after, AllBitsStand}}
-use Rattle.sharc_invariant.specs.Sample.{the_targets, the_labels, IsSample}
 
 -- the state behind a turn: a world with the invariant, and what has become of the world
 abbrev pub Turned : Targets → Code → Shape → Labels → Global Machine → World → Turn → Type 0
@@ -91,10 +90,6 @@ RunsFromTheBeginning = (x : Targets) (code : Code) (s : Shape) (ls : Labels) →
 -- the history of a code that has made no turn
 abbrev pub NothingYet : Type 0
 NothingYet = (x : Targets) → Tied (lang_of x) (first_world x).obj (first_world x) []
-
--- a code with threads, casts and locks is well typed
-abbrev pub SampleIsTyped : Type 0
-SampleIsTyped = (code : Code) → IsSample code → IsWellTyped the_targets code the_labels
 
 -- ---- cells
 -- a cell that an instruction names, of an object that is not NULL, is there where its place's label stands

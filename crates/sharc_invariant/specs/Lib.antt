@@ -10,7 +10,6 @@ pub mod MachineInvariant
 pub mod Objects
 pub mod Opened
 pub mod Reports
-pub mod Sample
 pub mod State
 pub mod Turns
 pub mod Typed

@@ -2,7 +2,7 @@
 
 ghost use Rattle.sharc_invariant.specs.Laws.{Begins, Keeps, EventsObey, RunsStay, RunsFromTheBeginning, RunsStand};
 ghost use Rattle.sharc_invariant.specs.Laws.{RunsBits, StateStands, CellsAreThere, PointersAreThere};
-ghost use Rattle.sharc_invariant.specs.Laws.{AccessesAreAllowed, NothingYet, SampleIsTyped};
+ghost use Rattle.sharc_invariant.specs.Laws.{AccessesAreAllowed, NothingYet};
 ghost use Rattle.sharc_invariant.specs.Reports.{RunsConflict, RunsTest};
 
 use sharc_code::thread_laws;
@@ -78,9 +78,4 @@ pub fn runs_report()
 /// The source events obey the sharing rules, whatever effects a run has.
 pub fn events_obey()
     ensures { EventsObey }
-{}
-
-/// There are well typed codes with threads, casts and locks.
-pub fn sample_is_typed()
-    ensures { SampleIsTyped }
 {}

@@ -18,4 +18,4 @@ pub use Rattle.sharc_guard.specs.{Guard.{check_under, entered_at, expand, expand
 pub use Rattle.sharc_compile.specs.{Generated.{generated, instr_of}, Made.IsCodeOf}
 pub use Rattle.sharc_invariant.proofs.{Frames.{kept_pass, wider}, Scoped.{less_entry_refl, less_gate_refl, less_number_refl, less_refl, scoped_empty, scoped_fill, scoped_gate, scoped_number}}
 pub use Rattle.sharc_invariant.specs.{Labels.{AllSame, Anything, Chained, Checked, Closed, Copies, Element, Empty, Entry, EntryMentions, Exactly, Fresh, Gate, HasBase, HasCopy, HasName, Holds, HoldsLoaded, Indexes, IsCopy, IsFree, IsIn, IsNamed as IsNameOf, IsScoped, Itself, Label, Labels, Leads, Less, LessEntry, LessGate, LessNumber, Loaded, Named, Narrower, Nth, Number, OfElement, OfGlobal, Pass, Refers, SameLock, SameReference, Signature, Sole, Unknown, Within, empty, fill, forgets, forgotten, gated, is_base, knows, names, set_number, some_names, without_base, without_copies, without_index}, Typed.{Accesses, AreFieldLocks, AreGlobals, Calls, Covers, Directly, Earlier, Fine, Fits as FitsWidth, Hands, HasBefore, HasCell, HasField, Initial, IsAnyLock, IsBaseFree, IsElement, IsFieldLock, IsInGlobal, IsLayout, IsLockCell, IsLockMode, IsMode, IsMutexOf, IsNotSole, IsOwn, IsPlace, IsSameContent, IsSameFieldLock, IsShared, IsSibling, IsTypeLock, IsTypeMode, IsUnpassed, IsVacant, IsWellTyped, LeadsChecked, MayAccess, MayStart, Numbers, Operands, Passes, PassesLock, Passes_on, PointsTo, Recasts, below, below_copy, below_number, below_pass, called_label, entry_label, handed_label, ints_in, is_comparison, is_shift, knows_base, moved_copy, no_lock, refs_in, unlocked_label, without_base_of}, Types.{AreTargets, CellMode, Content, Field, FieldLock, FieldMode, FieldType, Lock, Mentions, Names, ObjectType, SomeNames, StaticType, Targets, cells_of, field_at, field_in, field_of_cell, global_field, is_mutex, is_pointer, is_private, mode_at, mode_in, no_field, type_in}, Types.Content.{Integer, MutexWord, Pointer, Waiters}, Types.FieldLock.{OfElement as OfSameElement, OfGlobals, OfType}, Types.FieldMode.{Behind, Dynamic, Private, Racy, Readonly, Under}, Types.Lock.{Global, Self, Through}}
-pub use Rattle.sharc_typed_laws.specs.{Begun.{LabelsStand, label_of}, Blocks.{AnywhereLeads, BlockLeads, BlocksAreTyped, BlocksLead, EnterLeads}, Decided.{ChoiceLeads, DecisionsAreTyped, DecisionsLead, EverLeads, IfLeads, JoinLeads, LoopLeads, loop_ways, turn_by}, Declared.{Begins, BeginsInteger, BeginsReference, InitialTypable, Keeps, LocalTypable, LocalsAreTyped, StandsBefore, before, declared_label}, Ended.{EndsAreTyped, Grows}, Functions.{FunctionLines, FunctionTypable, FunctionsAreTyped, IsLowTyping}, Inside.{FlatLabels, before_check, behind, cleared, element_pass, exchanged, gate_behind, global_element_pass, global_pass, held_gate, inside, known_behind, labels_from, labels_of, lock_of, outside, pass_of, passed_behind, tested, with_pass}, LabelsLaws.{AreAllLines, ExpressionsAreTyped, LinesAreTyped, LinesKnow, LinesTell, PartsAreTyped, SimplesAreTyped, StretchesJoin, TestsAreTyped, ValueComes}, Left.{AreNested, IsOpen, JumpsAreTyped, LeavesAreTyped, back}, Lines.{Frees, Gives, IsGuardedBy, IsLockedBy, IsTypedFlat, Loads, LoadsGuard, LoadsReference, Makes, MayPass, PassesCheck, PointersMadeAt, Settles, Stores, StoresReference, To, TypedLine, moved}, Passes.{IsNumberOf, IsPassed, IsTypedAnyhow, Knows, RepeatsCheck, TypedAnyhow, is_write, pass_at, pass_by, pass_of_place, passes_after, passes_before, passes_in, passes_next, remembered, stays, with_all, with_checks, with_passes}, Places.{AreLow, IsNamed, IsPlain, MayReach, RegistersStand, mark, no_type}, Premises.{Ground, HasBaseAt, HasIndex, HasMutex, HasNumbers, HasWaiters, HoldsVariables, IntegerTyped, IsCopyIn, IsCopyNamed, IsCopyOf, IsPlaced, IsPointerCopy, MutexTyped, ReachesInteger, ReachesReference, ReferenceTyped, ThroughGuard, Typing, number_in_global}, Programs.{AreGlobalsNamed, IsSettingOf, TypableProgram}, Returned.{GivesBack, GivesBackBy, NothingReturns, ReturnTypable, ReturnedBy, Returns, ValuesReturn}, Sample.{IsSampleCode, SampleStands, the_field, the_first, the_flat, the_global, the_labels, the_second, the_spot, the_starts, the_targets, the_third, the_write}, Stated.{Assigned, CellAssigned, CountTypable, Dropped, IsMade, RightTypable, SimpleTypable, ValueGoes, VariableAssigned}, Statements.{DeclaredTypable, FirstTypable, StatementTypable, StatementsTypable, StepTypable, TestTypable}, Steps.{Chain, Steps, all_at, first_or}, Stretches.{AreLines, AreOpen, AreWithin, Fits, IsAtHand, IsLine, IsTypedAt, LeadsAmong, LeadsFrom, LeadsWithin, Mark, Setting, Stretch, Tells, Way, flat_labels, labels_by}, Typable.{AreFields, AreFree, AreTwo, AreTypable, ArgumentAt, ArgumentsAt, CallTypable, CallTyped, CastTyped, CellTyped, ComparedTyped, ConditionTyped, ConstantTyped, FirstCell, FreeTyped, Goes, GoesTo, Handed, HasNoWidth, HasType, IndexTypable, IsBare, IsNumber, IsOne, IsPlaceTypable, IsPointer, IsTypable, IsTypeIn, IsVoid, NameTyped, ResultTyped, SpawnTyped, StandsIn, TakeTyped, Takes, UnaryTyped, VariableTakes, VariableTyped, Widens, ground_of, ints_behind, refs_behind, result_of, type_by}, TypedLaws.LeadsOn}
+pub use Rattle.sharc_typed_laws.specs.{Begun.{LabelsStand, label_of}, Blocks.{AnywhereLeads, BlockLeads, BlocksAreTyped, BlocksLead, EnterLeads}, Decided.{ChoiceLeads, DecisionsAreTyped, DecisionsLead, EverLeads, IfLeads, JoinLeads, LoopLeads, loop_ways, turn_by}, Declared.{Begins, BeginsInteger, BeginsReference, InitialTypable, Keeps, LocalTypable, LocalsAreTyped, StandsBefore, before, declared_label}, Ended.{EndsAreTyped, Grows}, Functions.{FunctionLines, FunctionTypable, FunctionsAreTyped, IsLowTyping}, Inside.{FlatLabels, before_check, behind, cleared, element_pass, exchanged, gate_behind, global_element_pass, global_pass, held_gate, inside, known_behind, labels_from, labels_of, lock_of, outside, pass_of, passed_behind, tested, with_pass}, LabelsLaws.{AreAllLines, ExpressionsAreTyped, LinesAreTyped, LinesKnow, LinesTell, PartsAreTyped, SimplesAreTyped, StretchesJoin, TestsAreTyped, ValueComes}, Left.{AreNested, IsOpen, JumpsAreTyped, LeavesAreTyped, back}, Lines.{Frees, Gives, IsGuardedBy, IsLockedBy, IsTypedFlat, Loads, LoadsGuard, LoadsReference, Makes, MayPass, PassesCheck, PointersMadeAt, Settles, Stores, StoresReference, To, TypedLine, moved}, Passes.{IsNumberOf, IsPassed, IsTypedAnyhow, Knows, RepeatsCheck, TypedAnyhow, is_write, pass_at, pass_by, pass_of_place, passes_after, passes_before, passes_in, passes_next, remembered, stays, with_all, with_checks, with_passes}, Places.{AreLow, IsNamed, IsPlain, MayReach, RegistersStand, mark, no_type}, Premises.{Ground, HasBaseAt, HasIndex, HasMutex, HasNumbers, HasWaiters, HoldsVariables, IntegerTyped, IsCopyIn, IsCopyNamed, IsCopyOf, IsPlaced, IsPointerCopy, MutexTyped, ReachesInteger, ReachesReference, ReferenceTyped, ThroughGuard, Typing, number_in_global}, Programs.{AreGlobalsNamed, IsSettingOf, TypableProgram}, Returned.{GivesBack, GivesBackBy, NothingReturns, ReturnTypable, ReturnedBy, Returns, ValuesReturn}, Stated.{Assigned, CellAssigned, CountTypable, Dropped, IsMade, RightTypable, SimpleTypable, ValueGoes, VariableAssigned}, Statements.{DeclaredTypable, FirstTypable, StatementTypable, StatementsTypable, StepTypable, TestTypable}, Steps.{Chain, Steps, all_at, first_or}, Stretches.{AreLines, AreOpen, AreWithin, Fits, IsAtHand, IsLine, IsTypedAt, LeadsAmong, LeadsFrom, LeadsWithin, Mark, Setting, Stretch, Tells, Way, flat_labels, labels_by}, Typable.{AreFields, AreFree, AreTwo, AreTypable, ArgumentAt, ArgumentsAt, CallTypable, CallTyped, CastTyped, CellTyped, ComparedTyped, ConditionTyped, ConstantTyped, FirstCell, FreeTyped, Goes, GoesTo, Handed, HasNoWidth, HasType, IndexTypable, IsBare, IsNumber, IsOne, IsPlaceTypable, IsPointer, IsTypable, IsTypeIn, IsVoid, NameTyped, ResultTyped, SpawnTyped, StandsIn, TakeTyped, Takes, UnaryTyped, VariableTakes, VariableTyped, Widens, ground_of, ints_behind, refs_behind, result_of, type_by}, TypedLaws.LeadsOn}

@@ -36,7 +36,6 @@ pub mod Program
 pub mod Remembered
 pub mod Returning
 pub mod Rules
-pub mod Sampled
 pub mod Scoping
 pub mod Simple
 pub mod Spawning

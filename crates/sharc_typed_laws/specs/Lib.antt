@@ -13,7 +13,6 @@ pub mod Places
 pub mod Premises
 pub mod Programs
 pub mod Returned
-pub mod Sample
 pub mod Stated
 pub mod Statements
 pub mod Steps

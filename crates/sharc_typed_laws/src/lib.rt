@@ -17,4 +17,4 @@ pub use labels::{
     leaves_law, lines_law, locals_law, parts_law, returns_nothing_law, simples_law, stretches_law,
     tells_law, tests_law, values_return_law,
 };
-pub use typed::{anyhow_law, code_law, pieces_law, sample_law, scopes_law, typed_law};
+pub use typed::{anyhow_law, code_law, pieces_law, scopes_law, typed_law};

@@ -1,7 +1,7 @@
 //! Laws of code that is made of typed flat code.
 
 ghost use Rattle.sharc_typed_laws.specs.TypedLaws.{PiecesAreTyped, PiecesAreScoped, TypedFlatIsTyped, AnyhowIsTyped};
-ghost use Rattle.sharc_typed_laws.specs.{TypedLaws.CodeIsTyped, Sample.SampleIsTyped};
+ghost use Rattle.sharc_typed_laws.specs.TypedLaws.{CodeIsTyped};
 
 /// The statements that an operation becomes are typed one after the other, from what is known before its line to what
 /// may be known after it.
@@ -32,8 +32,3 @@ pub fn code_law()
     anyhow_law();
     typed_law();
 }
-
-/// There is flat code that is typed whatever checks are remembered, of which a check is dropped.
-pub fn sample_law()
-    ensures { SampleIsTyped }
-{}

@@ -1,4 +1,4 @@
-use Rattle.sharc_compile_laws.proofs.Imports.flat_of
+use Rattle.sharc_compile_laws.proofs.Imports.{flat_of}
 use Rattle.sharc_compile_laws.proofs.flattened.made_is_level.Goals as goal
 
 pub returns : goal.returns
