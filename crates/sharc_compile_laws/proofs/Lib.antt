@@ -1,5 +1,6 @@
 mod Imports
 pub mod Slots
+pub mod Looping
 pub mod Pieces
 pub mod Located
 pub mod Parts

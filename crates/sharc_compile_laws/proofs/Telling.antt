@@ -1,5 +1,5 @@
 -- What the threads of a run report, among the events of all threads.
-use Rattle.sharc_compile_laws.proofs.Imports.{◌≡◌, ℕ, ℤ, ◌+◌, ◌<◌, inl, inr, ⊎_elim, Bool, true, false, cond, List, [], ◌∷◌, ◌++◌, length, map, reverse, refl, sym, ap, ◌∙◌, subst, arith, slice_get, nat_tests, append-nil, reverse-reverse, filter-append, ◌==◌, nat_eq, filter, slice_index_or, SourceEvent, function_at, functions_in, Assignment, events_of, is_of, asks, IsNamedAt, answers_of, by, Code, Row, no_function, Said, said_by, Erase, FlatCode, flat_of, rows_of, names_of, Flattens, globals_of, entered_at, place, dropped, begins, program_of, told_in, IsCodeOf, RunsFollowSource, FollowsSource, TellsIn, ThreadsTell, reverse_cons, AreOf, IsFirstOf, OwnAreTold, same_test}
+use Rattle.sharc_compile_laws.proofs.Imports.{◌≡◌, ℕ, ℤ, ◌<◌, inl, inr, ⊎_elim, Bool, true, false, cond, List, [], ◌∷◌, ◌++◌, length, map, reverse, refl, sym, ap, ◌∙◌, subst, arith, slice_get, nat_tests, append-nil, reverse-reverse, filter-append, ◌==◌, nat_eq, filter, slice_index_or, SourceEvent, function_at, functions_in, Assignment, events_of, is_of, asks, IsNamedAt, answers_of, by, Code, Row, no_function, Said, said_by, Erase, FlatCode, flat_of, rows_of, names_of, Flattens, globals_of, entered_at, place, dropped, begins, program_of, told_in, IsCodeOf, RunsFollowSource, FollowsSource, TellsIn, ThreadsTell, reverse_cons, AreOf, IsFirstOf, OwnAreTold, same_test}
 use Rattle.sharc_flat_lemmas.proofs.{Functions.{are_rows, row_of, rows_as_many}, Laid.{mapped_same, rows_many, rows_same}}
 use Rattle.sharc_lemmas.proofs.{Lists.some_there, Numbers.same_test}
 

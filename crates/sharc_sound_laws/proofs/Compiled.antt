@@ -1,5 +1,5 @@
 -- All codes of one program are alike: the texts of its lines may lie in any order.
-use Rattle.sharc_sound_laws.proofs.{Imports.{◌≡◌, ℕ, zero, suc, List, [], ◌∷◌, map, get_or, Option, Some, None, refl, sym, ap, ◌∙◌, subst, Code, Function, SourcePlace, Text, Instr, no_function, no_place, Resolution, functions_in, OneFunctionOfName, Assignment, flattened, names_of, AreTold, AreNamed, globals_of, LineTexts, Op, Flat, flat_of, instr_of, sites_of, entered_at, place, expanded, dropped, IsCompiled, unnamed, IsSamePlace, CompiledAreAlike}, Lists.{ap2, map_same, element_of}, Lines.{place_same, statements_same}}
+use Rattle.sharc_sound_laws.proofs.{Imports.{◌≡◌, ℕ, zero, suc, List, [], ◌∷◌, map, get_or, refl, sym, ap, ◌∙◌, subst, Code, Function, Instr, no_function, no_place, Resolution, functions_in, OneFunctionOfName, Assignment, flattened, names_of, AreTold, AreNamed, globals_of, LineTexts, Op, Flat, flat_of, instr_of, sites_of, entered_at, place, expanded, dropped, IsCompiled, unnamed, IsSamePlace, CompiledAreAlike}, Lists.{ap2, map_same, element_of}, Lines.{place_same, statements_same}}
 
 -- ---- functions
 entered_same : (bytes : List ℕ) (pl ql : ℕ → ℕ) → ((n : ℕ) → pl n ≡ ql n) → (xs : List Function) (names : List (List ℕ)) (ys : List Function) → AreNamed bytes xs names ys
