@@ -6,7 +6,7 @@ ghost use Rattle.sharc_ctype.specs.{Resolved.named_at, Transfers.parameters_name
 ghost use Rattle.sharc_mode.specs.{Expressions.{expected, notes_of, notes_of_all}, Notes.{agree_notes, call_notes}};
 
 use crate::passing::{Passed, Passing, without_first};
-use crate::rules::{Noted, Notes, agree, call, cast, expected, field, place, source};
+use crate::rules::{Notes, Noting, agree, call, cast, expected, field, place, source};
 use sharc_ctype::typed::parameters_named;
 use sharc_mode::moded::Moded;
 use sharc_mode::row::{PathReading, base_use, named_row};
@@ -14,7 +14,13 @@ use sharc_tree::token::Span;
 use sharc_tree::tree::{Declaration, Expr, Identifier};
 
 // What is said of a spawn, beside what is said of what it passes.
-fn spawned(program: &Moded, span: Span, name: &Identifier, value: &Expr, notes: &mut Notes) -> Noted
+fn spawned(
+    program: &Moded,
+    span: Span,
+    name: &Identifier,
+    value: &Expr,
+    notes: &mut Notes,
+) -> Noting
     ensures { let ds = parameters_named program.now.typed (named_at program.now.typed name.now.site.token) in
         let all = argument (view_expr value.now) no_arguments in
         OnOk result (notes.new.items ≡ notes.old.items
@@ -34,7 +40,7 @@ fn spawned(program: &Moded, span: Span, name: &Identifier, value: &Expr, notes: 
 
 /// Says what is to be said of an expression.
 #[cycle(expr)]
-pub(crate) fn expression(program: &Moded, expr: &Expr, notes: &mut Notes) -> Noted
+pub(crate) fn expression(program: &Moded, expr: &Expr, notes: &mut Notes) -> Noting
     ensures { OnOk result (notes.new.items ≡ notes.old.items ++ notes_of program.now (view_expr expr.now)) }
 {
     match expr {
@@ -77,7 +83,13 @@ pub(crate) fn expression(program: &Moded, expr: &Expr, notes: &mut Notes) -> Not
 
 /// Says what is to be said of a call, and of its arguments.
 #[cycle(expr)]
-fn called(program: &Moded, span: Span, name: &Identifier, list: &[Expr], notes: &mut Notes) -> Noted
+fn called(
+    program: &Moded,
+    span: Span,
+    name: &Identifier,
+    list: &[Expr],
+    notes: &mut Notes,
+) -> Noting
     ensures { let ds = parameters_named program.now.typed (named_at program.now.typed name.now.site.token) in
         let all = view_arguments list.now in
         OnOk result (notes.new.items ≡ notes.old.items

@@ -5,7 +5,7 @@ ghost use Rattle.sharc_mode.specs.Notes.{errors_of};
 ghost use Rattle.sharc_check.specs.Settles.{taken_errors, settled, marked, marks, past, past_all};
 
 use crate::named::NamedVariables;
-use crate::rules::{Noted, Notes, error};
+use crate::rules::{Notes, Noting, error};
 use sharc_ctype::typed::Typed;
 use sharc_mode::error::{ErrorCode, ModeError};
 use sharc_mode::finding::Finding;
@@ -64,7 +64,7 @@ fn marks(alloc: Global, notes: &[Finding]) -> Result<NamedVariables, AllocError>
 }
 
 /// The case that a variable or a global is taken that a path names.
-fn taken(typed: &Typed, named: bool, taken: (Span, u32), errors: &mut Vec<ModeError>) -> Noted
+fn taken(typed: &Typed, named: bool, taken: (Span, u32), errors: &mut Vec<ModeError>) -> Noting
     ensures { OnOk result (errors.new.items ≡ errors.old.items ++ taken_errors typed.now named taken.0 taken.1) }
 {
     if named {
@@ -82,7 +82,7 @@ fn settle_one(
     named: &NamedVariables,
     note: Finding,
     errors: &mut Vec<ModeError>,
-) -> Noted
+) -> Noting
     ensures { OnOk result (errors.new.items ≡ errors.old.items ++ settled typed.now named.now note) }
 {
     match note {

@@ -36,7 +36,7 @@ use sharc_tree::tree::{Declaration, Expr, PlaceCall, WrittenType};
 use std::alloc::{AllocError, Global};
 
 /// Whether the findings could be added: nothing but memory can be lacking.
-pub type Noted = Result<(), AllocError>;
+pub type Noting = Result<(), AllocError>;
 
 /// What is to be said of a program, in the order in which it was found.
 pub type Notes = Vec<Finding>;
@@ -91,7 +91,7 @@ fn differ(
     root: Root<'_>,
     rows: (Targets<'_>, Targets<'_>),
     notes: &mut Notes,
-) -> Noted
+) -> Noting
     requires expected { rows.0.first + rows.0.count ≤ position_count program.now.typed }
     requires found { rows.1.first + rows.1.count ≤ position_count program.now.typed }
     ensures { OnOk result (notes.new.items ≡ notes.old.items ++ mismatch code span
@@ -112,7 +112,7 @@ pub(crate) fn agree(
     expected: Option<Targets<'_>>,
     expr: &Expr,
     notes: &mut Notes,
-) -> Noted
+) -> Noting
     requires { EndsWithin program.now.typed expected }
     ensures { OnOk result (notes.new.items ≡ notes.old.items ++ agree_notes program.now
         (option_map (modes_of program.now) (view_rows expected.entry)) (view_expr expr.now)) }
@@ -139,7 +139,7 @@ pub(crate) fn agree(
 }
 
 /// Says that a place is readonly, where it is.
-fn readonly(program: &Moded, code: ErrorCode, place: &Expr, notes: &mut Notes) -> Noted
+fn readonly(program: &Moded, code: ErrorCode, place: &Expr, notes: &mut Notes) -> Noting
     ensures { OnOk result (notes.new.items
         ≡ notes.old.items ++ error_where (is_readonly (cell_at program.now (view_expr place.now))) code
         (span_of (view_expr place.now)) (span_text program.now.typed (span_of (view_expr place.now)))) }
@@ -154,7 +154,7 @@ fn readonly(program: &Moded, code: ErrorCode, place: &Expr, notes: &mut Notes) -
 }
 
 /// M2
-pub(crate) fn write(program: &Moded, place: &Expr, notes: &mut Notes) -> Noted
+pub(crate) fn write(program: &Moded, place: &Expr, notes: &mut Notes) -> Noting
     ensures { OnOk result (notes.new.items ≡ notes.old.items ++ write_notes program.now (view_expr place.now)) }
 {
     readonly(program, ErrorCode::ReadonlyWrite, place, notes)
@@ -167,7 +167,7 @@ pub(crate) fn cast(
     to: &WrittenType,
     from: &Expr,
     notes: &mut Notes,
-) -> Noted
+) -> Noting
     ensures { OnOk result (notes.new.items
         ≡ notes.old.items ++ cast_notes program.now.typed to.now.span to.now.ctype.base
         (modes_of program.now (cast_row program.now.typed span)) (modes_at program.now (view_expr from.now))) }
@@ -206,7 +206,7 @@ pub fn taken_variable(typed: &Typed, place: &Expr) -> Option<u32>
     }
 }
 
-fn takes(span: Span, variable: Option<u32>, notes: &mut Notes) -> Noted
+fn takes(span: Span, variable: Option<u32>, notes: &mut Notes) -> Noting
     ensures { OnOk result (notes.new.items ≡ notes.old.items ++ takes span variable) }
 {
     if let Some(variable) = variable {
@@ -216,7 +216,7 @@ fn takes(span: Span, variable: Option<u32>, notes: &mut Notes) -> Noted
 }
 
 /// M9, and what M10 asks for.
-pub(crate) fn source(program: &Moded, place: &Expr, notes: &mut Notes) -> Noted
+pub(crate) fn source(program: &Moded, place: &Expr, notes: &mut Notes) -> Noting
     ensures { OnOk result (notes.new.items ≡ notes.old.items ++ source_notes program.now (view_expr place.now)) }
 {
     readonly(program, ErrorCode::ReadonlySource, place, notes)?;
@@ -225,7 +225,7 @@ pub(crate) fn source(program: &Moded, place: &Expr, notes: &mut Notes) -> Noted
 }
 
 /// The argument of `lock`, `unlock` or `free`.
-pub(crate) fn place(program: &Moded, call: PlaceCall, place: &Expr, notes: &mut Notes) -> Noted
+pub(crate) fn place(program: &Moded, call: PlaceCall, place: &Expr, notes: &mut Notes) -> Noting
     ensures { OnOk result (notes.new.items ≡ notes.old.items ++ place_notes program.now call (view_expr place.now)) }
 {
     match call {
@@ -235,7 +235,7 @@ pub(crate) fn place(program: &Moded, call: PlaceCall, place: &Expr, notes: &mut 
     }
 }
 
-fn name(variable: Option<u32>, notes: &mut Notes) -> Noted
+fn name(variable: Option<u32>, notes: &mut Notes) -> Noting
     ensures { OnOk result (notes.new.items ≡ notes.old.items ++ names_of variable) }
 {
     if let Some(variable) = variable {
@@ -245,7 +245,7 @@ fn name(variable: Option<u32>, notes: &mut Notes) -> Noted
 }
 
 /// The variable or the global that the path of a mode names.
-pub(crate) fn name_in(typed: &Typed, s: Sharing<'_>, notes: &mut Notes) -> Noted
+pub(crate) fn name_in(typed: &Typed, s: Sharing<'_>, notes: &mut Notes) -> Noting
     ensures { OnOk result (notes.new.items ≡ notes.old.items ++ names_in typed.now (view_sharing s.entry)) }
 {
     match s {
@@ -258,7 +258,7 @@ pub(crate) fn name_in(typed: &Typed, s: Sharing<'_>, notes: &mut Notes) -> Noted
 }
 
 /// The variables and globals that the paths of a row name.
-fn names_in_row(program: &Moded, row: Targets<'_>, notes: &mut Notes) -> Noted
+fn names_in_row(program: &Moded, row: Targets<'_>, notes: &mut Notes) -> Noting
     requires { row.first + row.count ≤ position_count program.now.typed }
     ensures { OnOk result (notes.new.items
         ≡ notes.old.items ++ names_in_all program.now.typed (modes_of program.now (view_row row.entry))) }
@@ -292,7 +292,7 @@ fn any_sibling(program: &Moded, row: Targets<'_>) -> bool
     false
 }
 
-fn sibling(typed: &Typed, span: Span, base: Option<u32>, notes: &mut Notes) -> Noted
+fn sibling(typed: &Typed, span: Span, base: Option<u32>, notes: &mut Notes) -> Noting
     ensures { OnOk result (notes.new.items ≡ notes.old.items ++ sibling_notes typed.now span base) }
 {
     match base {
@@ -313,7 +313,7 @@ pub(crate) fn field(
     base: Option<u32>,
     targets: Targets<'_>,
     notes: &mut Notes,
-) -> Noted
+) -> Noting
     requires { targets.first + targets.count ≤ position_count program.now.typed }
     ensures { OnOk result (notes.new.items
         ≡ notes.old.items ++ field_notes program.now.typed span base (modes_of program.now (view_row targets.entry))) }
@@ -431,7 +431,7 @@ fn first_unmet<'a>(program: &'a Moded, passing: Passing<'a>) -> Option<Lock<'a>>
     None
 }
 
-fn said_unmet(typed: &Typed, span: Span, lock: Option<Lock<'_>>, notes: &mut Notes) -> Noted
+fn said_unmet(typed: &Typed, span: Span, lock: Option<Lock<'_>>, notes: &mut Notes) -> Noting
     ensures { OnOk result (notes.new.items ≡ notes.old.items ++ unmet_notes typed.now span (view_locks lock.entry)) }
 {
     if let Some(lock) = lock {
@@ -448,7 +448,7 @@ fn name_read(
     reading: PathReading<'_>,
     level: &Option<Mode>,
     notes: &mut Notes,
-) -> Noted
+) -> Noting
     ensures { OnOk result (notes.new.items
         ≡ notes.old.items ++ names_read typed.now (view_reading reading.entry) level.now) }
 {
@@ -464,7 +464,7 @@ fn names_read(
     reading: PathReading<'_>,
     levels: &[Option<Mode>],
     notes: &mut Notes,
-) -> Noted
+) -> Noting
     ensures { OnOk result (notes.new.items
         ≡ notes.old.items ++ flat_map (names_read typed.now (view_reading reading.entry)) levels.now) }
 {
@@ -480,7 +480,7 @@ fn parameter_names(
     passing: Passing<'_>,
     parameter: &Declaration,
     notes: &mut Notes,
-) -> Noted
+) -> Noting
     ensures { OnOk result (notes.new.items ≡ notes.old.items ++ parameter_names program.now
         (at_call passing.entry.parameters.now (view_passed passing.entry.passed)) parameter.now) }
 {
@@ -492,7 +492,7 @@ fn parameter_names(
 }
 
 /// The variables and globals that the substituted paths name.
-fn names_at_call(program: &Moded, passing: Passing<'_>, notes: &mut Notes) -> Noted
+fn names_at_call(program: &Moded, passing: Passing<'_>, notes: &mut Notes) -> Noting
     ensures { OnOk result (notes.new.items ≡ notes.old.items ++ names_at_call program.now passing.entry.parameters.now
         (view_passed passing.entry.passed) passing.entry.parameters.now) }
 {
@@ -503,7 +503,7 @@ fn names_at_call(program: &Moded, passing: Passing<'_>, notes: &mut Notes) -> No
 }
 
 /// M4 of a call, and the variables and globals that its paths name.
-pub(crate) fn call(program: &Moded, span: Span, passing: Passing<'_>, notes: &mut Notes) -> Noted
+pub(crate) fn call(program: &Moded, span: Span, passing: Passing<'_>, notes: &mut Notes) -> Noting
     ensures { OnOk result (notes.new.items ≡ notes.old.items
         ++ call_notes program.now span passing.entry.parameters.now (view_passed passing.entry.passed)) }
 {

@@ -8,12 +8,12 @@ ghost use Rattle.sharc_mode.specs.Expressions.{return_notes, first_notes, head_n
 ghost use Rattle.sharc_mode.specs.{Expressions.{item_notes, items_notes}, Rows.modes_of, View.{view_rows, EndsWithin}};
 
 use crate::expr::expression;
-use crate::rules::{Noted, Notes, agree, write};
+use crate::rules::{Notes, Noting, agree, write};
 use sharc_mode::moded::Moded;
 use sharc_mode::row::{PathReading, Targets, declared_row, row_of};
 use sharc_tree::tree::{Expr, ForFirst, ForHead, Item, Local, Right, Simple, Stmt};
 
-fn optional(program: &Moded, expr: &Option<Expr>, notes: &mut Notes) -> Noted
+fn optional(program: &Moded, expr: &Option<Expr>, notes: &mut Notes) -> Noting
     ensures { OnOk result (notes.new.items
         ≡ notes.old.items ++ option_notes (notes_of program.now) (view_option view_expr expr.now)) }
 {
@@ -24,7 +24,7 @@ fn optional(program: &Moded, expr: &Option<Expr>, notes: &mut Notes) -> Noted
 }
 
 /// The right side of `=`, beside the modes that are expected there.
-fn right(program: &Moded, want: Option<Targets<'_>>, right: &Right, notes: &mut Notes) -> Noted
+fn right(program: &Moded, want: Option<Targets<'_>>, right: &Right, notes: &mut Notes) -> Noting
     requires { EndsWithin program.now.typed want }
     ensures { OnOk result (notes.new.items ≡ notes.old.items
         ++ right_notes program.now (option_map (modes_of program.now) (view_rows want.entry)) (view_right right.now)) }
@@ -38,7 +38,7 @@ fn right(program: &Moded, want: Option<Targets<'_>>, right: &Right, notes: &mut 
     }
 }
 
-fn simple(program: &Moded, simple: &Simple, notes: &mut Notes) -> Noted
+fn simple(program: &Moded, simple: &Simple, notes: &mut Notes) -> Noting
     ensures { OnOk result (notes.new.items ≡ notes.old.items ++ simple_notes program.now (view_simple simple.now)) }
 {
     match simple {
@@ -56,7 +56,7 @@ fn initial(
     want: Option<Targets<'_>>,
     value: &Option<Right>,
     notes: &mut Notes,
-) -> Noted
+) -> Noting
     requires { EndsWithin program.now.typed want }
     ensures { OnOk result (notes.new.items ≡ notes.old.items ++ option_notes (right_notes program.now
         (option_map (modes_of program.now) (view_rows want.entry))) (view_option view_right value.now)) }
@@ -67,7 +67,7 @@ fn initial(
     }
 }
 
-fn local(program: &Moded, local: &Local, notes: &mut Notes) -> Noted
+fn local(program: &Moded, local: &Local, notes: &mut Notes) -> Noting
     ensures { OnOk result (notes.new.items ≡ notes.old.items ++ local_notes program.now (view_local local.now)) }
 {
     let token = local.declaration.name.site.token;
@@ -75,7 +75,7 @@ fn local(program: &Moded, local: &Local, notes: &mut Notes) -> Noted
     initial(program, Some(want), &local.initial, notes)
 }
 
-fn first(program: &Moded, first: &ForFirst, notes: &mut Notes) -> Noted
+fn first(program: &Moded, first: &ForFirst, notes: &mut Notes) -> Noting
     ensures { OnOk result (notes.new.items ≡ notes.old.items ++ first_notes program.now (view_first first.now)) }
 {
     match first {
@@ -85,7 +85,7 @@ fn first(program: &Moded, first: &ForFirst, notes: &mut Notes) -> Noted
     }
 }
 
-fn step(program: &Moded, step: &Option<Simple>, notes: &mut Notes) -> Noted
+fn step(program: &Moded, step: &Option<Simple>, notes: &mut Notes) -> Noting
     ensures { OnOk result (notes.new.items
         ≡ notes.old.items ++ option_notes (simple_notes program.now) (view_option view_simple step.now)) }
 {
@@ -95,7 +95,7 @@ fn step(program: &Moded, step: &Option<Simple>, notes: &mut Notes) -> Noted
     }
 }
 
-fn head(program: &Moded, head: &ForHead, notes: &mut Notes) -> Noted
+fn head(program: &Moded, head: &ForHead, notes: &mut Notes) -> Noting
     ensures { OnOk result (notes.new.items ≡ notes.old.items ++ head_notes program.now (view_head head.now)) }
 {
     first(program, &head.first, notes)?;
@@ -104,7 +104,7 @@ fn head(program: &Moded, head: &ForHead, notes: &mut Notes) -> Noted
 }
 
 /// What is returned in the function whose name is the token with this number.
-fn returned(program: &Moded, function: u32, value: &Option<Box<Expr>>, notes: &mut Notes) -> Noted
+fn returned(program: &Moded, function: u32, value: &Option<Box<Expr>>, notes: &mut Notes) -> Noting
     ensures { OnOk result (notes.new.items ≡ notes.old.items
         ++ option_notes (return_notes program.now function) (view_option (λ b. view_expr b.value) value.now)) }
 {
@@ -120,7 +120,7 @@ fn returned(program: &Moded, function: u32, value: &Option<Box<Expr>>, notes: &m
 
 /// Says what is to be said of a statement of that function.
 #[cycle(statement)]
-fn statement(program: &Moded, function: u32, stmt: &Stmt, notes: &mut Notes) -> Noted
+fn statement(program: &Moded, function: u32, stmt: &Stmt, notes: &mut Notes) -> Noting
     ensures { OnOk result (notes.new.items ≡ notes.old.items ++ notes_in program.now function (view_stmt stmt.now)) }
 {
     match stmt {
@@ -157,7 +157,7 @@ fn statement(program: &Moded, function: u32, stmt: &Stmt, notes: &mut Notes) -> 
 
 /// Says what is to be said of statements that follow one another.
 #[cycle(statement)]
-fn statements(program: &Moded, function: u32, all: &[Stmt], notes: &mut Notes) -> Noted
+fn statements(program: &Moded, function: u32, all: &[Stmt], notes: &mut Notes) -> Noting
     ensures { OnOk result (notes.new.items
         ≡ notes.old.items ++ notes_in_all program.now function (view_statements all.now)) }
 {
@@ -167,7 +167,7 @@ fn statements(program: &Moded, function: u32, all: &[Stmt], notes: &mut Notes) -
     Ok(())
 }
 
-fn item(program: &Moded, item: &Item, notes: &mut Notes) -> Noted
+fn item(program: &Moded, item: &Item, notes: &mut Notes) -> Noting
     ensures { OnOk result (notes.new.items ≡ notes.old.items ++ item_notes program.now (view_item item.now)) }
 {
     match item {
@@ -181,7 +181,7 @@ fn item(program: &Moded, item: &Item, notes: &mut Notes) -> Noted
 }
 
 /// Says what is to be said of the expressions and statements of items.
-pub(crate) fn items(program: &Moded, items: &[Item], notes: &mut Notes) -> Noted
+pub(crate) fn items(program: &Moded, items: &[Item], notes: &mut Notes) -> Noting
     ensures { OnOk result (notes.new.items ≡ notes.old.items ++ items_notes program.now (view_items items.now)) }
 {
     for one in items {

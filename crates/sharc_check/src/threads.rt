@@ -9,7 +9,7 @@ ghost use Rattle.sharc_reach.specs.Reaching.{AreReached};
 ghost use Rattle.sharc_check.specs.Threads.{function_notes, global_notes, touched_by};
 
 use crate::rule_laws::spawned_are_told;
-use crate::rules::{Noted, Notes, error};
+use crate::rules::{Notes, Noting, error};
 use crate::types::is_private_level;
 use sharc_mode::cell::pointed;
 use sharc_mode::error::ErrorCode;
@@ -34,7 +34,7 @@ fn has_private_target(program: &Moded, token: u32) -> bool
 }
 
 /// Says what is to be said of a parameter of the spawned function of that name.
-fn parameter(program: &Moded, name: &Name, of: &Declaration, notes: &mut Notes) -> Noted
+fn parameter(program: &Moded, name: &Name, of: &Declaration, notes: &mut Notes) -> Noting
     ensures { OnOk result (notes.new.items ≡ notes.old.items ++ parameter_notes program.now name.now of.now) }
 {
     if has_private_target(program, of.name.site.token) {
@@ -50,7 +50,7 @@ fn parameter(program: &Moded, name: &Name, of: &Declaration, notes: &mut Notes) 
     Ok(())
 }
 
-fn parameters(program: &Moded, name: &Name, all: &[Declaration], notes: &mut Notes) -> Noted
+fn parameters(program: &Moded, name: &Name, all: &[Declaration], notes: &mut Notes) -> Noting
     ensures { OnOk result (notes.new.items
         ≡ notes.old.items ++ flat_map (parameter_notes program.now name.now) all.now) }
 {
@@ -65,7 +65,7 @@ fn function(
     spawned: bool,
     of: Option<&FunctionDefinition>,
     notes: &mut Notes,
-) -> Noted
+) -> Noting
     ensures { OnOk result (notes.new.items
         ≡ notes.old.items ++ function_notes program.now spawned (option_map (λ f. view_function f.now) of.entry)) }
 {
@@ -82,7 +82,7 @@ fn function(
 }
 
 /// Says what is to be said of the functions that are spawned.
-pub(crate) fn spawned(program: &Moded, reached: &Reached, notes: &mut Notes) -> Noted
+pub(crate) fn spawned(program: &Moded, reached: &Reached, notes: &mut Notes) -> Noting
     requires { AreReached program.now.typed reached.now }
     ensures { OnOk result (notes.new.items
         ≡ notes.old.items ++ spawned_notes program.now 0 (functions_in program.now.typed.program.items)) }
@@ -99,7 +99,7 @@ pub(crate) fn spawned(program: &Moded, reached: &Reached, notes: &mut Notes) -> 
     Ok(())
 }
 
-fn global(touched: bool, of: Option<&GlobalDefinition>, notes: &mut Notes) -> Noted
+fn global(touched: bool, of: Option<&GlobalDefinition>, notes: &mut Notes) -> Noting
     ensures { OnOk result (notes.new.items ≡ notes.old.items ++ global_notes touched (option_copied of.entry)) }
 {
     match of {
@@ -127,7 +127,7 @@ fn begins_private(levels: &[Option<Mode>]) -> bool
 }
 
 /// Says what is to be said of the globals that are touched.
-pub(crate) fn touched(program: &Moded, reached: &Reached, notes: &mut Notes) -> Noted
+pub(crate) fn touched(program: &Moded, reached: &Reached, notes: &mut Notes) -> Noting
     requires { length reached.now.firsts ≡ length (globals_in program.now.typed.program.items) }
     ensures { OnOk result (notes.new.items
         ≡ notes.old.items ++ touched_notes (touched_by reached.now) 0 (globals_in program.now.typed.program.items)) }

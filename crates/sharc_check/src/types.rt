@@ -8,7 +8,7 @@ ghost use Rattle.sharc_mode.specs.{Notes.type_notes, WellFormed.{place_of, holds
 ghost use Rattle.sharc_mode.specs.WellFormed.{first_unfit_mode};
 ghost use Rattle.sharc_check.specs.Levels.{is_shared_top, holds_below};
 
-use crate::rules::{Noted, Notes, error, mismatch, name_in};
+use crate::rules::{Notes, Noting, error, mismatch, name_in};
 use sharc_ctype::entity::Numbered;
 use sharc_ctype::typed::Typed;
 use sharc_mode::cell::top_of;
@@ -67,7 +67,7 @@ fn holds_private(program: &Moded, numbered: &Numbered) -> bool
 }
 
 /// M3
-fn private(program: &Moded, numbered: &Numbered, notes: &mut Notes) -> Noted
+fn private(program: &Moded, numbered: &Numbered, notes: &mut Notes) -> Noting
     requires { numbered.now.first + positions_of numbered.now.entity ≤ position_count program.now.typed }
     ensures { OnOk result (notes.new.items ≡ notes.old.items ++ private_notes program.now numbered.now) }
 {
@@ -82,7 +82,7 @@ fn private(program: &Moded, numbered: &Numbered, notes: &mut Notes) -> Noted
 }
 
 /// M4
-fn path(typed: &Typed, numbered: &Numbered, notes: &mut Notes) -> Noted
+fn path(typed: &Typed, numbered: &Numbered, notes: &mut Notes) -> Noting
     ensures { OnOk result (notes.new.items ≡ notes.old.items
         ++ path_notes numbered.now.entity.written.span (first_unfit_path typed.now (place_of numbered.now.entity.role)
         numbered.now.entity.written.ctype.base numbered.now.entity.written.ctype.levels)) }
@@ -102,7 +102,7 @@ fn path(typed: &Typed, numbered: &Numbered, notes: &mut Notes) -> Noted
 }
 
 /// M5
-fn mode(numbered: &Numbered, notes: &mut Notes) -> Noted
+fn mode(numbered: &Numbered, notes: &mut Notes) -> Noting
     ensures { OnOk result (notes.new.items ≡ notes.old.items
         ++ mode_notes numbered.now.entity.written.span (first_unfit_mode (place_of numbered.now.entity.role)
         numbered.now.entity.written.ctype.base numbered.now.entity.written.ctype.levels)) }
@@ -152,7 +152,7 @@ fn is_field(role: Role) -> bool
 }
 
 /// M6
-fn private_field(typed: &Typed, numbered: &Numbered, notes: &mut Notes) -> Noted
+fn private_field(typed: &Typed, numbered: &Numbered, notes: &mut Notes) -> Noting
     ensures { OnOk result (notes.new.items ≡ notes.old.items ++ private_field_notes typed.now numbered.now) }
 {
     let entity = &numbered.entity;
@@ -164,7 +164,7 @@ fn private_field(typed: &Typed, numbered: &Numbered, notes: &mut Notes) -> Noted
     Ok(())
 }
 
-fn name_in_level(typed: &Typed, level: &Option<Mode>, notes: &mut Notes) -> Noted
+fn name_in_level(typed: &Typed, level: &Option<Mode>, notes: &mut Notes) -> Noting
     ensures { OnOk result (notes.new.items ≡ notes.old.items ++ names_in_level typed.now level.now) }
 {
     match level {
@@ -174,7 +174,7 @@ fn name_in_level(typed: &Typed, level: &Option<Mode>, notes: &mut Notes) -> Note
 }
 
 /// The variables and globals that the paths of a type name.
-fn names(typed: &Typed, levels: &[Option<Mode>], notes: &mut Notes) -> Noted
+fn names(typed: &Typed, levels: &[Option<Mode>], notes: &mut Notes) -> Noting
     ensures { OnOk result (notes.new.items ≡ notes.old.items ++ flat_map (names_in_level typed.now) levels.now) }
 {
     for level in levels {
@@ -184,7 +184,7 @@ fn names(typed: &Typed, levels: &[Option<Mode>], notes: &mut Notes) -> Noted
 }
 
 /// Says what is to be said of the type of an entity.
-fn type_said(program: &Moded, numbered: &Numbered, notes: &mut Notes) -> Noted
+fn type_said(program: &Moded, numbered: &Numbered, notes: &mut Notes) -> Noting
     requires { numbered.now.first + positions_of numbered.now.entity ≤ position_count program.now.typed }
     ensures { OnOk result (notes.new.items ≡ notes.old.items ++ type_notes program.now numbered.now) }
 {
@@ -201,7 +201,7 @@ fn type_said(program: &Moded, numbered: &Numbered, notes: &mut Notes) -> Noted
 }
 
 /// Says what is to be said of all types.
-pub(crate) fn types(program: &Moded, notes: &mut Notes) -> Noted
+pub(crate) fn types(program: &Moded, notes: &mut Notes) -> Noting
     ensures { OnOk result (notes.new.items ≡ notes.old.items
         ++ flat_map (type_notes program.now) (numbered (entities_in program.now.typed.program.items))) }
 {

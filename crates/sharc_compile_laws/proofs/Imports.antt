@@ -14,4 +14,4 @@ pub use Rattle.sharc_flat_lemmas.{proofs.Flow.{Knowledge, agrees_all}, specs.Pie
 pub use Rattle.sharc_guard.specs.{Correct.Resolved, Counted.{IsBeside, LockStands, LocksStand}, Guard.{body, check_under, entered_at, expand, expanded, head, own, place, tail}, Known.dropped, Level.{Calls, Enters, Fits, IsEntry, IsLevel, Leaves, Level, Resumes, Slots, Takes, free, full, result_slot, slot_of as cell_slot, with_moved, with_slot}}
 pub use Rattle.sharc_flat_laws.specs.Tables.{IsSpawned, MadeSpawns, SpawnMeets}
 pub use Rattle.sharc_compile.specs.{Correct.{IsBeginning, begins}, Generated.{instr_of, program_of}, Made.IsCodeOf, OfRuns.told_in, Runs.RunsFollowSource, Source.{FollowsSource, IsOverAs}}
-pub use Rattle.sharc_compile_laws.specs.{Laws.{FlattenedIsLevel, FlattenedLocksStand, MadeIsLevel, MadeLocksStand}, Names.{CodeHasMain, FunctionsAreNamed}, Paths.{IsAskedFor, TellsProgram}, Started.{SpawnedAreThreads, ThreadsMayStart}, Threads.{AreOf, IsFirstOf, OwnAreTold, TellsIn, ThreadsTell}}
+pub use Rattle.sharc_compile_laws.specs.{Laws.{FlattenedIsLevel, FlattenedLocksStand, MadeIsLevel, MadeLocksStand}, Names.{CodeHasMain, FunctionsAreNamed}, Paths.{IsAskedFor, TellsProgram}, Started.{SpawnedAreThreads, ThreadsMayStart}, Threads.{AreOfThread, IsFirstOf, OwnAreTold, TellsIn, ThreadsTell}}

@@ -1,6 +1,7 @@
 //! Guarded code from flat code: a pass for the places, one for the statements.
 
-ghost use Rattle.std.specs.Prelude.{true, ◌≡◌, ◌≤◌, ◌<◌, ◌+◌, ◌*◌, ◌^◌, ℕ, ◌++◌, ◌∷◌, [], IfOk, OnOk, length, map, slice_get};
+ghost use Rattle.std.specs.Prelude.{true, ◌≡◌, ◌≤◌, ◌<◌, ◌+◌, ◌*◌, ◌^◌, ℕ, ◌++◌, ◌∷◌, [], IfOk, OnOk, length, map};
+ghost use Rattle.std.specs.Prelude.{slice_get};
 ghost use Rattle.sharc_code.specs.{declared.instr.Instr.TheVariants.{Start, Exit}, Says.no_place};
 ghost use Rattle.sharc_flat.specs.Made.{flat_of};
 ghost use Rattle.sharc_guard.specs.Guard.{source_at_spot, spot_of, source_of, site_by, sites_of, check_under, head};

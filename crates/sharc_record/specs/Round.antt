@@ -28,11 +28,11 @@ pub record HasRun (code : Code) (s : Shape) (limit : ℕ) (old new : Hand SeatVi
   pub few : length events ≤ QUANTUM
 
 -- by what is lent to it
-abbrev pub MayRunBy : {G : Type 0} → Lent SharedView G → Hand SeatView → Type 0
-MayRunBy lent hand = MayRun lent.code.now lent.shape.now lent.limit lent.shared.now hand
+abbrev pub MayBeRunBy : {G : Type 0} → Lent SharedView G → Hand SeatView → Type 0
+MayBeRunBy lent hand = MayRun lent.code.now lent.shape.now lent.limit lent.shared.now hand
 
-abbrev pub HasRunBy : {B G : Type 0} → Lent B G → Hand SeatView → Hand SeatView → Type 0
-HasRunBy lent old new = HasRun lent.code.now lent.shape.now lent.limit old new
+abbrev pub WasRunBy : {B G : Type 0} → Lent B G → Hand SeatView → Hand SeatView → Type 0
+WasRunBy lent old new = HasRun lent.code.now lent.shape.now lent.limit old new
 
 -- ---- workers
 -- so it is of the hand at a place, if there is one
@@ -53,11 +53,11 @@ abbrev pub HaveAllRun : Code → Shape → ℕ → Worker SeatView → Worker Se
 HaveAllRun code s limit old new = (n : ℕ)
     → HasRunAt code s limit (slice_index_or old.hands.items n None) (slice_index_or new.hands.items n None)
 
-abbrev pub MayAllRunBy : {G : Type 0} → Lent SharedView G → Worker SeatView → Type 0
-MayAllRunBy lent worker = MayAllRun lent.code.now lent.shape.now lent.limit lent.shared.now worker
+abbrev pub MayAllBeRunBy : {G : Type 0} → Lent SharedView G → Worker SeatView → Type 0
+MayAllBeRunBy lent worker = MayAllRun lent.code.now lent.shape.now lent.limit lent.shared.now worker
 
-abbrev pub HaveAllRunBy : {B G : Type 0} → Lent B G → Worker SeatView → Worker SeatView → Type 0
-HaveAllRunBy lent old new = HaveAllRun lent.code.now lent.shape.now lent.limit old new
+abbrev pub WereAllRunBy : {B G : Type 0} → Lent B G → Worker SeatView → Worker SeatView → Type 0
+WereAllRunBy lent old new = HaveAllRun lent.code.now lent.shape.now lent.limit old new
 
 -- ---- a round
 -- it was made, and its events were appended to these

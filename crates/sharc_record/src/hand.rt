@@ -3,7 +3,7 @@
 ghost use Rattle.std.specs.Prelude.{◌≡◌, length, Some};
 ghost use Rattle.sharc_rounds.specs.Round.{AreLentBy, MayTurn};
 ghost use Rattle.sharc_record.specs.declared.journal.TheConstants.{QUANTUM as quantum};
-ghost use Rattle.sharc_record.specs.Round.{HasRunBy, MayRunBy};
+ghost use Rattle.sharc_record.specs.Round.{WasRunBy, MayBeRunBy};
 
 use crate::journal::QUANTUM;
 use crate::journaled::journal_laws;
@@ -27,7 +27,7 @@ fn run_thread<R: Wait, G: Gate>(
     requires shared { port.id ≡ lent.now.shared.now.id }
     requires count { port.count ≡ length lent.now.shared.now.opened.words }
     requires may { MayTurn lent.now.code.now lent.now.shape.now lent.now.limit quantum thread port.number }
-    ensures { HasRunBy lent.now record { seat = Some thread; port = port } result }
+    ensures { WasRunBy lent.now record { seat = Some thread; port = port } result }
 {
     journal_laws();
     quantum_laws();
@@ -69,8 +69,8 @@ pub(crate) fn run_hand<R: Wait, G: Gate>(
     worker: u32,
 ) -> Hand<JournalSeat>
     requires lent { AreLentBy lent.now (length lent.now.shared.now.opened.words) }
-    requires may { MayRunBy lent.now hand }
-    ensures { HasRunBy lent.now hand result }
+    requires may { MayBeRunBy lent.now hand }
+    ensures { WasRunBy lent.now hand result }
 {
     let Hand { seat, port } = hand;
     match seat {

@@ -1,7 +1,7 @@
 //! What the workers of a round do.
 
 ghost use Rattle.std.specs.Prelude.{◌≡◌, ◌<◌, ◌^◌, ℕ, length, slice_index_or};
-ghost use Rattle.sharc_record.specs.{Shared.SeatView, Round.{MayRunAt, HasRunAt, MayAllRunBy, HaveAllRunBy}};
+ghost use Rattle.sharc_record.specs.{Shared.SeatView, Round.{MayRunAt, HasRunAt, MayAllBeRunBy, WereAllRunBy}};
 ghost use Rattle.sharc_rounds.specs.{declared.worker.Worker.Worker, Round.AreLentBy};
 
 use crate::hand::run_hand;
@@ -37,8 +37,8 @@ fn run_worker<R: Wait, G: Gate>(
     number: u32,
 )
     requires lent { AreLentBy lent.now (length lent.now.shared.now.opened.words) }
-    requires may { MayAllRunBy lent.now worker.old }
-    ensures { HaveAllRunBy lent.now worker.old worker.new }
+    requires may { MayAllBeRunBy lent.now worker.old }
+    ensures { WereAllRunBy lent.now worker.old worker.new }
 {
     for n in 0..worker.hands.len() {
         let hand = worker.hands[n].take();
@@ -56,10 +56,10 @@ pub(crate) fn run_all<R: Threads + Wait + Sync, G: Gate + Sync>(
     requires some { 0 < length workers.old.items }
     requires few { length workers.old.items < 2 ^ 32 }
     requires may { (w : ℕ) (d : Worker SeatView) → w < length workers.old.items
-        → MayAllRunBy lent.now (slice_index_or workers.old.items w d) }
+        → MayAllBeRunBy lent.now (slice_index_or workers.old.items w d) }
     ensures count { length workers.new.items ≡ length workers.old.items }
     ensures each { (w : ℕ) (d : Worker SeatView) → w < length workers.old.items
-        → HaveAllRunBy lent.now (slice_index_or workers.old.items w d) (slice_index_or workers.new.items w d) }
+        → WereAllRunBy lent.now (slice_index_or workers.old.items w d) (slice_index_or workers.new.items w d) }
 {
     let count = workers.len();
     thread::for_each_mut(
@@ -69,8 +69,8 @@ pub(crate) fn run_all<R: Threads + Wait + Sync, G: Gate + Sync>(
         &|w: usize, worker: &mut Worker<JournalSeat>|
             requires lent { AreLentBy lent.now (length lent.now.shared.now.opened.words) }
             requires number { w < 2 ^ 32 }
-            requires may { MayAllRunBy lent.now worker.old }
-            ensures { HaveAllRunBy lent.entry.now worker.old worker.new }
+            requires may { MayAllBeRunBy lent.now worker.old }
+            ensures { WereAllRunBy lent.entry.now worker.old worker.new }
         { run_worker(rt, worker, lent, w as u32) },
     );
 }

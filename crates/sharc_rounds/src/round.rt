@@ -6,7 +6,8 @@ ghost use Rattle.sharc_code.specs.Layout.{Fits, words_of};
 ghost use Rattle.sharc_cpu.specs.Rows.{IsPlan};
 ghost use Rattle.sharc_bus.specs.Bus.{SeatView};
 ghost use Rattle.sharc_rounds.specs.{declared.stint.TheConstants.QUANTUM as quantum, declared.worker.Worker.Worker};
-ghost use Rattle.sharc_rounds.specs.Round.{AreLentBy, MayBegin, MayAllRunBy, HaveAllRunBy, MadeRound, AreWords, KeptBus};
+ghost use Rattle.sharc_rounds.specs.Round.{AreLentBy, MayBegin, MayAllRunBy, HaveAllRunBy, MadeRound, AreWords};
+ghost use Rattle.sharc_rounds.specs.Round.{KeptBus};
 
 use crate::gate::Gate;
 use crate::lent::Lent;

@@ -4,9 +4,9 @@ ghost use Rattle.std.specs.Prelude.{◌≡◌, ◌<◌, ◌≤◌, ◌%◌, ◌^
 ghost use Rattle.std.specs.Prelude.{slice_index_or};
 ghost use Rattle.sharc_word.specs.declared.step.TheConstants.{THREADS as threads};
 ghost use Rattle.sharc_bus.specs.Bus.{SeatView};
-ghost use Rattle.sharc_rounds.specs.{declared.hand.Hand.Hand, declared.worker.Worker.Worker, Round.{AreLentBy, MayRunAt}};
-ghost use Rattle.sharc_rounds.specs.Round.{HasRunAt, KeepsRoomAt, MayAllRunBy, HaveAllRunBy, KeepAllRoom, Seat, goes_on};
-ghost use Rattle.sharc_rounds.specs.{Round.hand_at, Shares.needed};
+ghost use Rattle.sharc_rounds.specs.{declared.hand.Hand.Hand, declared.worker.Worker.Worker, Shares.needed};
+ghost use Rattle.sharc_rounds.specs.Round.{AreLentBy, MayRunAt, HasRunAt, KeepsRoomAt, MayAllRunBy, HaveAllRunBy};
+ghost use Rattle.sharc_rounds.specs.Round.{KeepAllRoom, Seat, goes_on, hand_at};
 
 use crate::gate::Gate;
 use crate::hand::Hand;
@@ -64,7 +64,8 @@ fn goes_on(hand: &Option<Hand<BusSeat>>) -> bool
 fn run_at<G: Gate>(hand: &mut Option<Hand<BusSeat>>, lent: &Lent<Bus, G>, number: u32, stint: Stint)
     requires lent { AreLentBy lent.now (length lent.now.shared.now.opening) }
     requires some { 0 < stint.turns }
-    requires may { MayRunAt lent.now.code.now lent.now.shape.now lent.now.limit lent.now.shared.now stint.turns hand.old }
+    requires may { MayRunAt lent.now.code.now lent.now.shape.now lent.now.limit lent.now.shared.now stint.turns
+        hand.old }
     ensures ran { HasRunAt lent.now.code.now lent.now.shape.now lent.now.limit hand.old hand.new }
     ensures room { KeepsRoomAt stint.turns hand.old hand.new }
 {

@@ -1,7 +1,8 @@
 -- The code of typed flat code is typed.
 use Rattle.std.specs.{Prelude.{ℕ, ◌≡◌, Bool, map}, List.AllByRecursion}
 use Rattle.sharc_code.specs.{declared.code.Code.Code, Says.place_at}
-use Rattle.sharc_flat.specs.{declared.flat.{Flat.Flat as FlatCode, LineTexts.LineTexts}, declared.op.Op.Op, Machine.Flat}
+use Rattle.sharc_flat.specs.{declared.flat.{Flat.Flat as FlatCode, LineTexts.LineTexts}, declared.op.Op.Op}
+use Rattle.sharc_flat.specs.Machine.{Flat}
 use Rattle.sharc_flat.specs.Made.{flat_of}
 use Rattle.sharc_flat.specs.declared.op.Op.TheVariants as op
 use Rattle.sharc_compile.specs.{Generated.instr_of, Made.IsCodeOf}
