@@ -8,7 +8,6 @@ pub mod Expressing
 pub mod Leaving
 pub mod Stating
 pub mod Program
-pub mod Laid
 pub mod Ties
 pub mod Tied
 pub mod Tying

@@ -1,9 +1,9 @@
 -- Where the threads of a run are, among the events of all threads.
 use Rattle.sharc_wants_laws.proofs.Imports.{◌≡◌, ℕ, ℤ, inl, inr, ⊎_elim, ◌⊎◌, List, [], ◌∷◌, map, reverse, refl, sym, ap, ◌∙◌, subst, reverse-reverse, SourceEvent, Assignment, answers_of, events_of, by, Code, Machine, paced_in, begun, machine_after, Shape, Turn, said_by, turns_of, CheckedRun, Erase, place_after, MayStart, said_in, IsBeginning, told_in, elements_before, founds_of, RunsHavePaths, IsNotThere, BeginsWithStarted, BeginsWithStartedIn}
 use Rattle.sharc_meaning.specs.Meaning.{asks}
-use Rattle.sharc_compile_laws.specs.Threads.{AreOf, OwnAreTold}
+use Rattle.sharc_compile_laws.specs.Threads.{AreOfThread, OwnAreTold}
 
-of_map : (t : ℕ) (es : List SourceEvent) → AreOf t (map (by t) es)
+of_map : (t : ℕ) (es : List SourceEvent) → AreOfThread t (map (by t) es)
 of_map t [] = tt
 of_map t (e ∷ es) = (refl, of_map t es)
 
@@ -21,15 +21,15 @@ said_of code s run t = said_in code s (begun code s t) (elements_before code s t
 abbrev pub IsAtStart : Code → Shape → List Turn → ℕ → Type 0
 IsAtStart code s run t = IsBeginning (machine_of code s run t) (said_of code s run t) (paced_in code s (begun code s t) (founds_of (turns_of t run)))
 
-pub start_own : (code : Code) (s : Shape) (run : List Turn) (t : ℕ) → IsAtStart code s run t → AreOf t (said_of code s run t)
-start_own code s run t b = subst (AreOf t) (sym b.nothing) tt
+pub start_own : (code : Code) (s : Shape) (run : List Turn) (t : ℕ) → IsAtStart code s run t → AreOfThread t (said_of code s run t)
+start_own code s run t b = subst (AreOfThread t) (sym b.nothing) tt
 
-pub begun_own : (t : ℕ) (begins : SourceEvent) (after said : List SourceEvent) → said ≡ begins ∷ map (by t) after → begins.thread ≡ t → AreOf t said
-begun_own t begins after said starts own = subst (AreOf t) (sym starts) (own, of_map t after)
+pub begun_own : (t : ℕ) (begins : SourceEvent) (after said : List SourceEvent) → said ≡ begins ∷ map (by t) after → begins.thread ≡ t → AreOfThread t said
+begun_own t begins after said starts own = subst (AreOfThread t) (sym starts) (own, of_map t after)
 
 -- where all that each thread says is its own, the events of a thread are what it says
-pub own_events : OwnAreTold → RunsHavePaths → (code : Code) (s : Shape) (run : List Turn) → CheckedRun code s run → ((t : ℕ) → AreOf t (said_of code s run t)) → (t : ℕ) → events_of t (history_of code s run) ≡ said_of code s run t
-own_events law paths code s run checked own t = law.own (Erase code s run) (λ u. subst (AreOf u) (sym (said u)) (own u)) t ∙ said t
+pub own_events : OwnAreTold → RunsHavePaths → (code : Code) (s : Shape) (run : List Turn) → CheckedRun code s run → ((t : ℕ) → AreOfThread t (said_of code s run t)) → (t : ℕ) → events_of t (history_of code s run) ≡ said_of code s run t
+own_events law paths code s run checked own t = law.own (Erase code s run) (λ u. subst (AreOfThread u) (sym (said u)) (own u)) t ∙ said t
   where
     said : (u : ℕ) → reverse (told_in (said_by u (Erase code s run))) ≡ said_of code s run u
     said u = ap reverse (paths code s u run checked).said ∙ reverse-reverse (said_of code s run u)
