@@ -4,13 +4,13 @@ ghost use Rattle.std.specs.Prelude.{◌≡◌, ◌++◌, IfOk, OnOk};
 ghost use Rattle.sharc_tree.specs.Texts.{Appends};
 ghost use Rattle.sharc_report.specs.Verdicts.{since, warning_line, accepted_text};
 
-use crate::put::put_place;
+use crate::put::{Put, put_place};
 use sharc_ctype::typed::Typed;
 use sharc_mode::error::{Warning, Warnings};
 use sharc_mode::moded::Moded;
 use std::alloc::{AllocError, Global};
 
-fn put_since(text: &mut Vec<u8>, typed: &Typed, w: &Warning) -> Result<(), AllocError>
+fn put_since(text: &mut Vec<u8>, typed: &Typed, w: &Warning) -> Put
     ensures { Appends result (since typed.now w.now) text.old.items text.new.items }
 {
     text.extend_from_slice(b" may be NULL since ")?;
@@ -18,7 +18,7 @@ fn put_since(text: &mut Vec<u8>, typed: &Typed, w: &Warning) -> Result<(), Alloc
     text.extend_from_slice(b"\n")
 }
 
-fn put_warning(text: &mut Vec<u8>, typed: &Typed, w: &Warning) -> Result<(), AllocError>
+fn put_warning(text: &mut Vec<u8>, typed: &Typed, w: &Warning) -> Put
     ensures { Appends result (warning_line typed.now w.now) text.old.items text.new.items }
 {
     put_place(text, typed, w.read.file, w.read.line)?;

@@ -9,7 +9,7 @@ ghost use Rattle.sharc_report.specs.Explanations.{position_text, reason_text, re
 ghost use Rattle.sharc_report.specs.Explanations.{entity_line, explanation, explain_text};
 
 use crate::owners::owners;
-use crate::put::{put_number, put_three, put_token_place, put_tokens, put_two};
+use crate::put::{Put, put_number, put_three, put_token_place, put_tokens, put_two};
 use sharc_ctype::entity::{Entity, Numbered, first_depth};
 use sharc_ctype::typed::Typed;
 use sharc_mode::moded::Moded;
@@ -21,25 +21,20 @@ use sharc_tree::print::print_type;
 use std::alloc::{AllocError, Global};
 
 /// The lvalue of a cast.
-fn put_source(
-    alloc: Global,
-    text: &mut Vec<u8>,
-    typed: &Typed,
-    e: &Entity,
-) -> Result<(), AllocError>
+fn put_source(text: &mut Vec<u8>, typed: &Typed, e: &Entity) -> Put
     ensures { Appends result (source_text typed.now e.now) text.old.items text.new.items }
 {
     let last = e.last;
     let from = u64::from(e.written.span.last.token) + 2;
     if from < u64::from(last) {
-        put_tokens(alloc, text, typed, from as u32, last - 1)
+        put_tokens(text, typed, from as u32, last - 1)
     } else {
-        put_tokens(alloc, text, typed, e.token, last)
+        put_tokens(text, typed, e.token, last)
     }
 }
 
 /// What it is, and its name.
-fn put_named(alloc: Global, text: &mut Vec<u8>, typed: &Typed, e: &Entity) -> Result<(), AllocError>
+fn put_named(text: &mut Vec<u8>, typed: &Typed, e: &Entity) -> Put
     ensures { Appends result (named_as e.now.role typed.now e.now) text.old.items text.new.items }
 {
     match e.role {
@@ -50,24 +45,18 @@ fn put_named(alloc: Global, text: &mut Vec<u8>, typed: &Typed, e: &Entity) -> Re
         Role::Result => put_two(text, b"result ", text_at(typed, e.token)),
         Role::Cast => {
             text.extend_from_slice(b"cast of ")?;
-            put_source(alloc, text, typed, e)
+            put_source(text, typed, e)
         }
         Role::Made => Ok(()),
     }
 }
 
-fn put_entity(
-    alloc: Global,
-    text: &mut Vec<u8>,
-    typed: &Typed,
-    between: &[u8],
-    e: &Entity,
-) -> Result<(), AllocError>
+fn put_entity(text: &mut Vec<u8>, typed: &Typed, between: &[u8], e: &Entity) -> Put
     ensures { Appends result (entity_text typed.now between.now e.now) text.old.items text.new.items }
 {
     put_token_place(text, typed, e.token)?;
     text.extend_from_slice(between)?;
-    put_named(alloc, text, typed, e)
+    put_named(text, typed, e)
 }
 
 /// The name of a function.
@@ -92,13 +81,7 @@ fn owner_at<'a>(owners: &[&'a Numbered], position: u32) -> Option<&'a Numbered>
     }
 }
 
-fn put_position(
-    alloc: Global,
-    text: &mut Vec<u8>,
-    typed: &Typed,
-    position: u32,
-    owner: Option<&Numbered>,
-) -> Result<(), AllocError>
+fn put_position(text: &mut Vec<u8>, typed: &Typed, position: u32, owner: Option<&Numbered>) -> Put
     ensures { Appends result
         (position_text typed.now position (option_copied owner.entry)) text.old.items text.new.items }
 {
@@ -107,7 +90,7 @@ fn put_position(
         Some(n) => {
             let depth = first_depth(n.entity.role) as u64
                 + u64::from(position.saturating_sub(n.first));
-            put_entity(alloc, text, typed, b" ", &n.entity)?;
+            put_entity(text, typed, b" ", &n.entity)?;
             text.extend_from_slice(b" depth ")?;
             put_number(text, depth)
         }
@@ -115,13 +98,7 @@ fn put_position(
 }
 
 /// Why a position is dynamic.
-fn put_reason(
-    alloc: Global,
-    text: &mut Vec<u8>,
-    typed: &Typed,
-    all: &[&Numbered],
-    reason: Reason,
-) -> Result<(), AllocError>
+fn put_reason(text: &mut Vec<u8>, typed: &Typed, all: &[&Numbered], reason: Reason) -> Put
     requires { map (λ o. o.now) all.now ≡ owners (numbered (entities_in typed.now.program.items)) }
     ensures { Appends result (reason_text typed.now reason) text.old.items text.new.items }
 {
@@ -132,20 +109,19 @@ fn put_reason(
         }
         Reason::From(position) => {
             text.extend_from_slice(b"from ")?;
-            put_position(alloc, text, typed, position, owner_at(all, position))
+            put_position(text, typed, position, owner_at(all, position))
         }
     }
 }
 
 /// The line of a position that was inferred to be dynamic.
 fn put_line(
-    alloc: Global,
     text: &mut Vec<u8>,
     typed: &Typed,
     all: &[&Numbered],
     depth: usize,
     reason: Option<Reason>,
-) -> Result<(), AllocError>
+) -> Put
     requires { map (λ o. o.now) all.now ≡ owners (numbered (entities_in typed.now.program.items)) }
     ensures { Appends result (reason_line typed.now depth reason) text.old.items text.new.items }
 {
@@ -155,20 +131,14 @@ fn put_line(
             text.extend_from_slice(b"  depth ")?;
             put_number(text, depth as u64)?;
             text.extend_from_slice(b": ")?;
-            put_reason(alloc, text, typed, all, reason)?;
+            put_reason(text, typed, all, reason)?;
             text.extend_from_slice(b"\n")
         }
     }
 }
 
 /// Those of the positions of an entity, by depth.
-fn put_lines(
-    alloc: Global,
-    text: &mut Vec<u8>,
-    program: &Moded,
-    all: &[&Numbered],
-    n: &Numbered,
-) -> Result<(), AllocError>
+fn put_lines(text: &mut Vec<u8>, program: &Moded, all: &[&Numbered], n: &Numbered) -> Put
     requires all { map (λ o. o.now) all.now ≡ owners (numbered (entities_in program.now.typed.program.items)) }
     requires within { n.now.first + positions_of n.now.entity ≤ position_count program.now.typed }
     ensures { Appends result
@@ -178,7 +148,7 @@ fn put_lines(
     let first = first_depth(n.entity.role);
     for i in 0..n.entity.positions() {
         let reason = program.reason(n.first + i as u32);
-        put_line(alloc, text, program.typed(), all, first + i, reason)?;
+        put_line(text, program.typed(), all, first + i, reason)?;
     }
     Ok(())
 }
@@ -194,28 +164,18 @@ fn is_explained(role: Role, positions: usize) -> bool
     }
 }
 
-fn put_entity_line(
-    alloc: Global,
-    text: &mut Vec<u8>,
-    program: &Moded,
-    n: &Numbered,
-) -> Result<(), AllocError>
+fn put_entity_line(text: &mut Vec<u8>, program: &Moded, n: &Numbered) -> Put
     requires { n.now.first + positions_of n.now.entity ≤ position_count program.now.typed }
     ensures { Appends result (entity_line program.now n.now) text.old.items text.new.items }
 {
-    put_entity(alloc, text, program.typed(), b": ", &n.entity)?;
+    put_entity(text, program.typed(), b": ", &n.entity)?;
+    let alloc = *text.allocator();
     let printed = printed_type(alloc, program, n)?;
     let printed = print_type(alloc, &printed)?;
     put_three(text, b": ", &printed, b"\n")
 }
 
-fn put_explanation(
-    alloc: Global,
-    text: &mut Vec<u8>,
-    program: &Moded,
-    all: &[&Numbered],
-    n: &Numbered,
-) -> Result<(), AllocError>
+fn put_explanation(text: &mut Vec<u8>, program: &Moded, all: &[&Numbered], n: &Numbered) -> Put
     requires all { map (λ o. o.now) all.now ≡ owners (numbered (entities_in program.now.typed.program.items)) }
     requires within { n.now.first + positions_of n.now.entity ≤ position_count program.now.typed }
     ensures { Appends result (explanation program.now n.now) text.old.items text.new.items }
@@ -223,8 +183,8 @@ fn put_explanation(
     if !is_explained(n.entity.role, n.entity.positions()) {
         return Ok(());
     }
-    put_entity_line(alloc, text, program, n)?;
-    put_lines(alloc, text, program, all, n)
+    put_entity_line(text, program, n)?;
+    put_lines(text, program, all, n)
 }
 
 /// A line for each global, parameter, local, pointer result and cast, by place, `file:line: kind name: type`, and after
@@ -236,7 +196,7 @@ pub fn explain_text(alloc: Global, program: &Moded) -> Result<Vec<u8>, AllocErro
     let all = owners(alloc, program.typed().entities())?;
     let mut text = Vec::new(alloc);
     for n in program.typed().entities() {
-        put_explanation(alloc, &mut text, program, &all, n)?;
+        put_explanation(&mut text, program, &all, n)?;
     }
     Ok(text)
 }

@@ -7,7 +7,7 @@ ghost use Rattle.sharc_names.specs.Notes as typing;
 ghost use Rattle.sharc_report.specs.Refusals.{lexer_message, parser_message, typing_message, at_offset, unexpected};
 ghost use Rattle.sharc_report.specs.Refusals.{quoted, head_of, refusal_line};
 
-use crate::put::{put_number, put_two};
+use crate::put::{Put, put_number, put_two};
 use sharc_lex::TokenFault as LexerFault;
 use sharc_names::fault::FaultCode;
 use sharc_parse::fault::GrammarFault;
@@ -40,13 +40,7 @@ pub fn fault_text(alloc: Global, fault: &SourceFault) -> Result<Vec<u8>, AllocEr
 }
 
 /// What stands before the message: the place and the code.
-fn put_head(
-    text: &mut Vec<u8>,
-    file: &[u8],
-    line: u32,
-    letter: &[u8],
-    digit: u8,
-) -> Result<(), AllocError>
+fn put_head(text: &mut Vec<u8>, file: &[u8], line: u32, letter: &[u8], digit: u8) -> Put
     ensures { OnOk result (text.new.items ≡ text.old.items ++ head_of file.now line letter.now digit) }
 {
     text.extend_from_slice(file)?;
@@ -57,7 +51,7 @@ fn put_head(
     text.extend_from_slice(b" ")
 }
 
-fn put_lexer_fault(text: &mut Vec<u8>, at: &FaultAt<LexerFault>) -> Result<(), AllocError>
+fn put_lexer_fault(text: &mut Vec<u8>, at: &FaultAt<LexerFault>) -> Put
     ensures { OnOk result (text.new.items ≡ text.old.items ++ (head_of at.now.file at.now.line (codes "L")
         (lexer.digit_of at.now.code) ++ lexer_message at.now.code at.now.offset)) }
 {
@@ -65,7 +59,7 @@ fn put_lexer_fault(text: &mut Vec<u8>, at: &FaultAt<LexerFault>) -> Result<(), A
     put_lexer_message(text, at.code, at.offset)
 }
 
-fn put_parser_fault(text: &mut Vec<u8>, at: &FaultAt<GrammarFault>) -> Result<(), AllocError>
+fn put_parser_fault(text: &mut Vec<u8>, at: &FaultAt<GrammarFault>) -> Put
     ensures { OnOk result (text.new.items ≡ text.old.items ++ (head_of at.now.file at.now.line (codes "P")
         (parser.digit_of at.now.code) ++ parser_message at.now.code at.now.text)) }
 {
@@ -73,7 +67,7 @@ fn put_parser_fault(text: &mut Vec<u8>, at: &FaultAt<GrammarFault>) -> Result<()
     put_parser_message(text, at.code, at.text.as_slice())
 }
 
-fn put_typing_fault(text: &mut Vec<u8>, at: &FaultAt<FaultCode>) -> Result<(), AllocError>
+fn put_typing_fault(text: &mut Vec<u8>, at: &FaultAt<FaultCode>) -> Put
     ensures { OnOk result (text.new.items ≡ text.old.items ++ (head_of at.now.file at.now.line (codes "C")
         (typing.digit at.now.code) ++ typing_message at.now.code at.now.text)) }
 {
@@ -81,7 +75,7 @@ fn put_typing_fault(text: &mut Vec<u8>, at: &FaultAt<FaultCode>) -> Result<(), A
     put_typing_message(text, at.code, at.text.as_slice())
 }
 
-fn put_lexer_message(text: &mut Vec<u8>, fault: LexerFault, offset: u64) -> Result<(), AllocError>
+fn put_lexer_message(text: &mut Vec<u8>, fault: LexerFault, offset: u64) -> Put
     ensures { OnOk result (text.new.items ≡ text.old.items ++ lexer_message fault offset) }
 {
     match fault {
@@ -93,7 +87,7 @@ fn put_lexer_message(text: &mut Vec<u8>, fault: LexerFault, offset: u64) -> Resu
     }
 }
 
-fn put_byte(text: &mut Vec<u8>, byte: u8, offset: u64) -> Result<(), AllocError>
+fn put_byte(text: &mut Vec<u8>, byte: u8, offset: u64) -> Put
     ensures { OnOk result (text.new.items ≡ text.old.items ++ (codes "byte " ++ decimal byte ++ at_offset offset)) }
 {
     text.extend_from_slice(b"byte ")?;
@@ -101,7 +95,7 @@ fn put_byte(text: &mut Vec<u8>, byte: u8, offset: u64) -> Result<(), AllocError>
     put_at_offset(text, b"", offset)
 }
 
-fn put_at_offset(text: &mut Vec<u8>, what: &[u8], offset: u64) -> Result<(), AllocError>
+fn put_at_offset(text: &mut Vec<u8>, what: &[u8], offset: u64) -> Put
     ensures { OnOk result (text.new.items ≡ text.old.items ++ (what.now ++ at_offset offset)) }
 {
     text.extend_from_slice(what)?;
@@ -109,11 +103,7 @@ fn put_at_offset(text: &mut Vec<u8>, what: &[u8], offset: u64) -> Result<(), All
     put_number(text, offset)
 }
 
-fn put_parser_message(
-    text: &mut Vec<u8>,
-    fault: GrammarFault,
-    token: &[u8],
-) -> Result<(), AllocError>
+fn put_parser_message(text: &mut Vec<u8>, fault: GrammarFault, token: &[u8]) -> Put
     ensures { OnOk result (text.new.items ≡ text.old.items ++ parser_message fault token.now) }
 {
     match fault {
@@ -123,7 +113,7 @@ fn put_parser_message(
     }
 }
 
-fn put_unexpected(text: &mut Vec<u8>, token: &[u8]) -> Result<(), AllocError>
+fn put_unexpected(text: &mut Vec<u8>, token: &[u8]) -> Put
     ensures { OnOk result (text.new.items ≡ text.old.items ++ unexpected token.now) }
 {
     if token.is_empty() {
@@ -133,7 +123,7 @@ fn put_unexpected(text: &mut Vec<u8>, token: &[u8]) -> Result<(), AllocError>
     }
 }
 
-fn put_quoted(text: &mut Vec<u8>, before: &[u8], inner: &[u8]) -> Result<(), AllocError>
+fn put_quoted(text: &mut Vec<u8>, before: &[u8], inner: &[u8]) -> Put
     ensures { OnOk result (text.new.items ≡ text.old.items ++ (before.now ++ quoted inner.now)) }
 {
     text.extend_from_slice(before)?;
@@ -142,7 +132,7 @@ fn put_quoted(text: &mut Vec<u8>, before: &[u8], inner: &[u8]) -> Result<(), All
     text.extend_from_slice(b"'")
 }
 
-fn put_typing_message(text: &mut Vec<u8>, fault: FaultCode, name: &[u8]) -> Result<(), AllocError>
+fn put_typing_message(text: &mut Vec<u8>, fault: FaultCode, name: &[u8]) -> Put
     ensures { OnOk result (text.new.items ≡ text.old.items ++ typing_message fault name.now) }
 {
     match fault {
