@@ -142,7 +142,10 @@ fn turns(
 // How many turns a case has, of which so many ask for no step.
 fn turns_of(silent: u32, case: &Case) -> u32 {
     let (_, asks, _) = *case;
-    silent.saturating_add(asks.len() as u32)
+    match u32::try_from(asks.len()) {
+        Ok(steps) => silent.saturating_add(steps),
+        Err(_) => u32::MAX,
+    }
 }
 
 // The turns of a case by a new thread.
