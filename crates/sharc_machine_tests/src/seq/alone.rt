@@ -10,7 +10,6 @@ use sharc_cpu::{Pause, Stop};
 use sharc_tree::trap::Trap;
 use sharc_tree::trap::Trap::{DivisionByZero, HeapFull, IndexOutOfBounds, NullPointer, OutOfRange};
 use std::alloc::Global;
-use std::process::Abort;
 use std::test::Fail;
 
 // What the instruction makes of two numbers, or the trap.
@@ -35,37 +34,13 @@ fn computed(
     }
 }
 
-/// An operator, two numbers, and what it makes of them as an `int` and as a `long`.
-type Computed = (Operator, (i64, i64), Result<i64, Trap>, Result<i64, Trap>);
-
-// The operators make this of their numbers.
-fn compute_all(rt: &impl Abort, alloc: Global, table: &[Computed]) -> Result<(), Fail> {
-    for row in table {
-        let (operator, (left, right), int, long) = *row;
-        let compute = Instr::ComputeInt(operator, 2, 0, 1, 5);
-        let answer = computed(alloc, compute, left, right)?;
-        assert_eq!(rt; answer, Some(int), "int, of {left} and {right}");
-        let compute = Instr::ComputeLong(operator, 2, 0, 1, 5);
-        let answer = computed(alloc, compute, left, right)?;
-        assert_eq!(rt; answer, Some(long), "long, of {left} and {right}");
-    }
-    Ok(())
-}
-
-static SUMS: [Computed; 5] = [
+/// What each operator makes of two numbers, as an `int` and as a `long`.
+static COMPUTED: [(Operator, (i64, i64), Result<i64, Trap>, Result<i64, Trap>); 29] = [
     (Add, (40, 2), Ok(42), Ok(42)),
     (Add, (2147483647, 1), Err(OutOfRange), Ok(2147483648)),
     (Subtract, (-2147483648, 1), Err(OutOfRange), Ok(-2147483649)),
     (Multiply, (65536, 32768), Err(OutOfRange), Ok(2147483648)),
     (Multiply, (i64::MAX, 2), Err(OutOfRange), Err(OutOfRange)),
-];
-
-#[test]
-fn sums_and_products(rt: HostRuntime) -> Result<(), Fail> {
-    compute_all(&rt, rt.alloc(), &SUMS)
-}
-
-static QUOTIENTS: [Computed; 7] = [
     (Divide, (-7, 2), Ok(-3), Ok(-3)),
     (Divide, (7, 0), Err(DivisionByZero), Err(DivisionByZero)),
     (Divide, (-2147483648, -1), Err(OutOfRange), Ok(2147483648)),
@@ -73,14 +48,6 @@ static QUOTIENTS: [Computed; 7] = [
     (Remainder, (-7, 2), Ok(-1), Ok(-1)),
     (Remainder, (7, 0), Err(DivisionByZero), Err(DivisionByZero)),
     (Remainder, (i64::MIN, -1), Err(OutOfRange), Err(OutOfRange)),
-];
-
-#[test]
-fn quotients(rt: HostRuntime) -> Result<(), Fail> {
-    compute_all(&rt, rt.alloc(), &QUOTIENTS)
-}
-
-static SHIFTS: [Computed; 8] = [
     (ShiftLeft, (1, 31), Err(OutOfRange), Ok(2147483648)),
     (ShiftLeft, (1, 32), Err(OutOfRange), Ok(4294967296)),
     (ShiftLeft, (-1, 63), Err(OutOfRange), Ok(i64::MIN)),
@@ -89,14 +56,6 @@ static SHIFTS: [Computed; 8] = [
     (ShiftLeft, (-1, 31), Ok(-2147483648), Ok(-2147483648)),
     (ShiftRight, (-8, 1), Ok(-4), Ok(-4)),
     (ShiftRight, (8, 64), Err(OutOfRange), Err(OutOfRange)),
-];
-
-#[test]
-fn shifts(rt: HostRuntime) -> Result<(), Fail> {
-    compute_all(&rt, rt.alloc(), &SHIFTS)
-}
-
-static BITS: [Computed; 9] = [
     (And, (12, 10), Ok(8), Ok(8)),
     (Or, (12, 10), Ok(14), Ok(14)),
     (Xor, (12, 10), Ok(6), Ok(6)),
@@ -109,8 +68,17 @@ static BITS: [Computed; 9] = [
 ];
 
 #[test]
-fn bits_and_comparisons(rt: HostRuntime) -> Result<(), Fail> {
-    compute_all(&rt, rt.alloc(), &BITS)
+fn operators(rt: HostRuntime) -> Result<(), Fail> {
+    for row in &COMPUTED {
+        let (operator, (left, right), int, long) = *row;
+        let compute = Instr::ComputeInt(operator, 2, 0, 1, 5);
+        let answer = computed(rt.alloc(), compute, left, right)?;
+        assert_eq!(rt; answer, Some(int), "int, of {left} and {right}");
+        let compute = Instr::ComputeLong(operator, 2, 0, 1, 5);
+        let answer = computed(rt.alloc(), compute, left, right)?;
+        assert_eq!(rt; answer, Some(long), "long, of {left} and {right}");
+    }
+    Ok(())
 }
 
 // 5 + 4 + .. + 1 by a loop; then the negative, its complement and its not.
