@@ -1,6 +1,6 @@
 //! Tables of sources, and what their threads ask for: tests alone, over the front end and `ask`.
 
 mod asked;
-mod question;
+pub(crate) mod question;
 mod tables;
-mod told;
+pub(crate) mod told;

@@ -1,4 +1,4 @@
-//! A source with the modes that it is inferred to have.
+//! The parts of a table, and a source with the modes that it is inferred to have.
 
 use sharc_ctype::typed::{Typed, type_program};
 use sharc_infer::infer;
@@ -9,8 +9,20 @@ use sharc_reach::reach;
 use std::process::Abort;
 use std::test::Fail;
 
+/// What stands before and behind the first of these separators.
+pub(crate) fn parts<'a>(
+    rt: &impl Abort,
+    text: &'a str,
+    separator: &str,
+) -> Result<(&'a str, &'a str), Fail> {
+    match text.split_once(separator) {
+        None => panic!(rt; "no {separator} in {text}"),
+        Some(parts) => Ok(parts),
+    }
+}
+
 /// The typed program of a source.
-fn typed(rt: &(impl Abort + AllocGlobal), source: &str) -> Result<Typed, Fail> {
+pub(crate) fn typed(rt: &(impl Abort + AllocGlobal), source: &str) -> Result<Typed, Fail> {
     assert!(rt; source.len() <= 1_048_576);
     let tokens = lex(rt.alloc(), source.as_bytes())?;
     match parse(rt.alloc(), tokens) {

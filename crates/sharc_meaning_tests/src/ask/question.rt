@@ -14,10 +14,7 @@ pub(crate) struct Question {
 }
 
 fn number_of(word: &str) -> i64 {
-    match word.parse::<i64>() {
-        Ok(number) => number,
-        Err(_) => 0,
-    }
+    word.parse::<i64>().unwrap_or(0)
 }
 
 /// A value or a reference.
@@ -33,12 +30,12 @@ fn value_of(word: &str) -> i64 {
 }
 
 /// The number of the function with this name; that of none where there is no such function.
-fn function_named(t: &Typed, name: &[u8]) -> u32 {
+pub(crate) fn function_named(t: &Typed, name: &str) -> u32 {
     for number in 0..1000 {
         match t.function_at(number) {
             None => return number,
             Some(function) => {
-                if function.name.text.as_slice() == name {
+                if function.name.text.as_slice() == name.as_bytes() {
                     return number;
                 }
             }
@@ -50,18 +47,9 @@ fn function_named(t: &Typed, name: &[u8]) -> u32 {
 /// Reads the words.
 pub(crate) fn question_of(alloc: Global, t: &Typed, text: &str) -> Result<Question, AllocError> {
     let mut words = text.split(" ");
-    let function = match words.next() {
-        None => 1000,
-        Some(name) => function_named(t, name.as_bytes()),
-    };
-    let argument = match words.next() {
-        None => 0,
-        Some(word) => value_of(word),
-    };
-    let fuel = match words.next() {
-        None => 0,
-        Some(word) => number_of(word).unsigned_abs(),
-    };
+    let function = function_named(t, words.next().unwrap_or(""));
+    let argument = value_of(words.next().unwrap_or(""));
+    let fuel = number_of(words.next().unwrap_or("")).unsigned_abs();
     let mut answers = Vec::new(alloc);
     for word in words {
         answers.push(value_of(word))?;

@@ -4,7 +4,7 @@
 
 use crate::ask::question::question_of;
 use crate::ask::told::{asked_text, given_up_text};
-use crate::sources::inferred;
+use crate::sources::{inferred, parts};
 use sharc_ask::asked::Asked;
 use sharc_ask::thread::ask;
 use sharc_mode::moded::Moded;
@@ -72,10 +72,8 @@ pub(crate) fn assert_lines(
 ) -> Result<(), Fail> {
     let m = inferred(rt, source)?;
     for line in lines.lines() {
-        match line.split_once(" = ") {
-            None => panic!(rt; "no question: {line}"),
-            Some((question, wanted)) => assert_line(rt, &m, source, question, wanted)?,
-        }
+        let (question, wanted) = parts(rt, line, " = ")?;
+        assert_line(rt, &m, source, question, wanted)?;
     }
     Ok(())
 }
@@ -83,10 +81,8 @@ pub(crate) fn assert_lines(
 /// Asserts what is asked for in each case of a table.
 pub(crate) fn assert_table(rt: &(impl Abort + AllocGlobal), table: &str) -> Result<(), Fail> {
     for case in table.split("==\n") {
-        match case.split_once("--\n") {
-            None => panic!(rt; "no case: {case}"),
-            Some((source, lines)) => assert_lines(rt, source, lines)?,
-        }
+        let (source, lines) = parts(rt, case, "--\n")?;
+        assert_lines(rt, source, lines)?;
     }
     Ok(())
 }
@@ -110,10 +106,8 @@ fn assert_value(
 /// Asserts the same of each line: an expression, ` = ` and what is wanted.
 pub(crate) fn assert_values(rt: &(impl Abort + AllocGlobal), table: &str) -> Result<(), Fail> {
     for line in table.lines() {
-        match line.split_once(" = ") {
-            None => panic!(rt; "no value: {line}"),
-            Some((expression, wanted)) => assert_value(rt, expression, wanted)?,
-        }
+        let (expression, wanted) = parts(rt, line, " = ")?;
+        assert_value(rt, expression, wanted)?;
     }
     Ok(())
 }

@@ -16,7 +16,8 @@ fn value_text(alloc: Global, value: i64) -> Result<String, AllocError> {
     }
 }
 
-fn cell_text(alloc: Global, c: CellAt) -> Result<String, AllocError> {
+/// An object and a cell of it.
+pub(crate) fn cell_text(alloc: Global, c: CellAt) -> Result<String, AllocError> {
     let cell = c.cell;
     match c.object {
         Object::Global(number) => format!(in alloc; "g{number}.{cell}"),

@@ -1,24 +1,17 @@
 //! Tables of sources as one text: a source, a line `--`, and lines with the digits of the threads in the order of their
 //! events, the fuel, the number of the object, ` = ` and the references; a line `==` separates two cases.
 
+use crate::ask::told::cell_text;
 use crate::holder::Holder;
 use crate::holders::threads::next_event;
 use crate::listed::references;
-use crate::sources::inferred;
+use crate::sources::{inferred, parts};
 use sharc_judge::first_illegal;
 use sharc_mode::moded::Moded;
-use sharc_tree::event::{CellAt, Object, SourceEvent};
+use sharc_tree::event::SourceEvent;
 use std::alloc::{AllocError, Global};
 use std::process::Abort;
 use std::test::Fail;
-
-fn cell_text(alloc: Global, c: CellAt) -> Result<String, AllocError> {
-    let cell = c.cell;
-    match c.object {
-        Object::Global(number) => format!(in alloc; "g{number}.{cell}"),
-        Object::Made(number) => format!(in alloc; "o{number}.{cell}"),
-    }
-}
 
 /// A cell, `m` and a mutex, `a` and a thread's number for its argument, `t` and a thread's number with which of its
 /// references it is.
@@ -50,16 +43,6 @@ fn holders_text(alloc: Global, holders: &[Holder]) -> Result<String, AllocError>
     Ok(text)
 }
 
-fn number_of(word: Option<&str>) -> u32 {
-    match word {
-        None => 0,
-        Some(word) => match word.parse::<u32>() {
-            Ok(number) => number,
-            Err(_) => 0,
-        },
-    }
-}
-
 /// The events of the threads whose digits are in the word.
 fn events_of(
     rt: &(impl Abort + AllocGlobal),
@@ -89,13 +72,9 @@ fn assert_line(
     wanted: &str,
 ) -> Result<(), Fail> {
     let mut words = question.split(" ");
-    let schedule = match words.next() {
-        None => "",
-        Some(word) => word,
-    };
-    let fuel = u64::from(number_of(words.next()));
-    let number = number_of(words.next());
-    let events = events_of(rt, m, schedule)?;
+    let events = events_of(rt, m, words.next().unwrap_or(""))?;
+    let fuel = words.next().unwrap_or("").parse::<u64>().unwrap_or(0);
+    let number = words.next().unwrap_or("").parse::<u32>().unwrap_or(0);
     let found = references(rt.alloc(), m, events.as_slice(), number, fuel)?;
     let text = holders_text(rt.alloc(), found.as_slice())?;
     assert_eq!(rt; text.as_str(), wanted, "{question} of {source}");
@@ -105,10 +84,8 @@ fn assert_line(
 fn assert_lines(rt: &(impl Abort + AllocGlobal), source: &str, lines: &str) -> Result<(), Fail> {
     let m = inferred(rt, source)?;
     for line in lines.lines() {
-        match line.split_once(" = ") {
-            None => panic!(rt; "no question: {line}"),
-            Some((question, wanted)) => assert_line(rt, &m, source, question, wanted)?,
-        }
+        let (question, wanted) = parts(rt, line, " = ")?;
+        assert_line(rt, &m, source, question, wanted)?;
     }
     Ok(())
 }
@@ -116,10 +93,8 @@ fn assert_lines(rt: &(impl Abort + AllocGlobal), source: &str, lines: &str) -> R
 /// Asserts the references of each line of each case.
 pub(crate) fn assert_table(rt: &(impl Abort + AllocGlobal), table: &str) -> Result<(), Fail> {
     for case in table.split("==\n") {
-        match case.split_once("--\n") {
-            None => panic!(rt; "no case: {case}"),
-            Some((source, lines)) => assert_lines(rt, source, lines)?,
-        }
+        let (source, lines) = parts(rt, case, "--\n")?;
+        assert_lines(rt, source, lines)?;
     }
     Ok(())
 }

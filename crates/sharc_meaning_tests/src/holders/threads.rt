@@ -1,5 +1,6 @@
 //! The events of threads, one after the other in a given order.
 
+use crate::ask::question::function_named;
 use sharc_ask::asked::Outcome;
 use sharc_ask::thread::ask;
 use sharc_ctype::typed::Typed;
@@ -8,21 +9,6 @@ use sharc_judge::store::value_after;
 use sharc_mode::moded::Moded;
 use sharc_tree::event::{Act, CellAt, SourceEvent, Taken};
 use std::alloc::{AllocError, Global};
-
-/// The number of `main`; that of none where there is none.
-fn main_of(t: &Typed) -> u32 {
-    for number in 0..1000 {
-        match t.function_at(number) {
-            None => return number,
-            Some(function) => {
-                if function.name.text.as_slice() == b"main".as_slice() {
-                    return number;
-                }
-            }
-        }
-    }
-    1000
-}
 
 /// The function and the argument of a thread.
 fn entry(t: &Typed, events: &[SourceEvent], thread: u32) -> (u32, i64) {
@@ -33,7 +19,7 @@ fn entry(t: &Typed, events: &[SourceEvent], thread: u32) -> (u32, i64) {
             }
         }
     }
-    (main_of(t), 0)
+    (function_named(t, "main"), 0)
 }
 
 /// The thread's first event.
@@ -66,26 +52,14 @@ fn count_like(events: &[SourceEvent], spawned: bool) -> i64 {
     count
 }
 
-fn value_of(t: &Typed, events: &[SourceEvent], c: CellAt) -> i64 {
-    match i64::try_from(value_after(t, events, c)) {
-        Ok(value) => value,
-        Err(_) => 0,
-    }
-}
-
-/// The number of elements, 0 where it is too large for an answer.
-fn elements_in(elements: u64) -> i64 {
-    match i64::try_from(elements) {
-        Ok(elements) => elements,
-        Err(_) => 0,
-    }
-}
-
 /// What the store answers: objects and threads are counted from 1.
 fn answer_to(t: &Typed, events: &[SourceEvent], act: Act) -> i64 {
     match act {
-        Act::Read(c, _) | Act::Take(Taken::Cell(c, _), _) => value_of(t, events, c),
-        Act::New(_, elements, _) => elements_in(elements)
+        Act::Read(c, _) | Act::Take(Taken::Cell(c, _), _) => i64::try_from(value_after(
+            t, events, c,
+        )).unwrap_or(0),
+        Act::New(_, elements, _) => i64::try_from(elements)
+            .unwrap_or(0)
             .wrapping_mul(4_294_967_296)
             .wrapping_add(count_like(events, false))
             .wrapping_add(1),

@@ -1,8 +1,29 @@
 //! Events as rows of tables.
 
-use sharc_tree::event::{Act, SourceEvent};
+use sharc_tree::event::{Act, CellAt, Object, SourceEvent};
 use sharc_tree::token::Site;
 use std::alloc::{AllocError, Global};
+
+pub const G: CellAt = CellAt {
+    object: Object::Global(0),
+    cell: 0,
+};
+
+pub const MUTEX: CellAt = CellAt {
+    object: Object::Global(1),
+    cell: 0,
+};
+
+/// The cells of object 1.
+pub const OWN: CellAt = CellAt {
+    object: Object::Made(1),
+    cell: 0,
+};
+
+pub const OWN_BESIDE: CellAt = CellAt {
+    object: Object::Made(1),
+    cell: 1,
+};
 
 /// The thread, what it does, and the answer.
 pub type Row = (u32, Act, i64);
