@@ -8,13 +8,13 @@ told_more r bytes [] (y ∷ told) o x all one = absurd all
 told_more r bytes (p ∷ lines) [] o x all one = absurd all
 told_more r bytes (p ∷ lines) (y ∷ told) o x all one = (all.0, told_more r bytes lines told o x all.1 one)
 
-pub line_more : (r : Resolution) (old new : List ℕ) (lines : List Op) (told : List LineTexts) (n : ℕ) (o : Op) (x : LineTexts) → n < length lines → o ≡ get_or lines n o → Grows old new
-    → ((more : List ℕ) → AreTold r (old ++ more) (take n lines) told) → ((more : List ℕ) → AreTexts r (new ++ more) (spot_in o) x) → (more : List ℕ) → AreTold r (new ++ more) (take (n + 1) lines) (told ++ x ∷ [])
-line_more r old new lines told n o x within at grows all one more =
+pub line_more : (r : Resolution) (old new : List ℕ) (lines : List Op) (told next : List LineTexts) (n : ℕ) (d : Op) (x : LineTexts) → n < length lines → next ≡ told ++ x ∷ [] → Grows old new
+    → ((more : List ℕ) → AreTold r (old ++ more) (take n lines) told) → ((more : List ℕ) → AreTexts r (new ++ more) (spot_in (get_or lines n d)) x) → (more : List ℕ) → AreTold r (new ++ more) (take (n + 1) lines) next
+line_more r old new lines told next n d x within is grows all one more =
     let bytes : old ++ (grows.0 ++ more) ≡ new ++ more = sym (append_assoc old grows.0 more) ∙ ap (λ l. l ++ more) grows.1 in
     let before : AreTold r (new ++ more) (take n lines) told = subst (λ (b : List ℕ). AreTold r b (take n lines) told) bytes (all (grows.0 ++ more)) in
-    let lines_are : take n lines ++ o ∷ [] ≡ take (n + 1) lines = sym (take_more lines n o within ∙ ap (λ y. take n lines ++ y ∷ []) (sym at)) in
-    subst (λ (l : List Op). AreTold r (new ++ more) l (told ++ x ∷ [])) lines_are (told_more r (new ++ more) (take n lines) told o x before (one more))
+    subst (λ (l : List Op). AreTold r (new ++ more) l next) (sym (take_more lines n d within))
+    (subst (λ (l : List LineTexts). AreTold r (new ++ more) (take n lines ++ get_or lines n d ∷ []) l) (sym is) (told_more r (new ++ more) (take n lines) told (get_or lines n d) x before (one more)))
 
 pub named_more : (bytes : List ℕ) (told : List Row) (names : List (List ℕ)) (made : List Row) (x : Row) (name : List ℕ) (y : Row) → AreNamed bytes told names made → IsNamed bytes x y name
     → AreNamed bytes (told ++ x ∷ []) (names ++ name ∷ []) (made ++ y ∷ [])

@@ -203,7 +203,8 @@ impl<'a> TokenTexts<'a> {
     {
         let mut told = Vec::with_capacity(alloc, lines.len())?;
         for line in 0..lines.len() {
-            told.push(self.told(alloc, lines[line], bytes)?)?;
+            let texts = self.told(alloc, lines[line], bytes)?;
+            told.push(texts)?;
         }
         Ok(told)
     }
