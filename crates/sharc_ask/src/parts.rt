@@ -35,7 +35,7 @@ use sharc_tree::trap::Trap;
 use sharc_tree::tree::{Declaration, Expr, ValueCall};
 
 /// The temporaries after the mark end, where a number came.
-pub fn end_above(answer: Ran<i64, RunEnd>, mark: usize, st: &mut State) -> Result<i64>
+pub fn end_above(answer: Ran<i64>, mark: usize, st: &mut State) -> Ran<i64>
     ensures does { (before : Known) (run : Run ℤ) → Does before answer (view_state st.old) run
         → Does before result (view_state st.new) (ends_above mark run) }
     ensures fuel { st.new.fuel ≤ st.old.fuel }
@@ -49,7 +49,7 @@ pub fn end_above(answer: Ran<i64, RunEnd>, mark: usize, st: &mut State) -> Resul
 }
 
 /// Likewise, of a step.
-pub fn end_step(answer: Ran<(), RunEnd>, mark: usize, st: &mut State) -> Result<()>
+pub fn end_step(answer: Ran<()>, mark: usize, st: &mut State) -> Ran<()>
     ensures does { (before : Known) (run : Step) → Does before answer (view_state st.old) run
         → Does before result (view_state st.new) (ends_above mark run) }
     ensures fuel { st.new.fuel ≤ st.old.fuel }
@@ -63,7 +63,7 @@ pub fn end_step(answer: Ran<(), RunEnd>, mark: usize, st: &mut State) -> Result<
 }
 
 /// A step, and then 0.
-pub fn zero_behind(answer: Ran<(), RunEnd>) -> Result<i64>
+pub fn zero_behind(answer: Ran<()>) -> Ran<i64>
     ensures does { (before after : Known) (run : Step) → Does before answer after run
         → Does before result after (zero_behind run) }
     ensures kept { (n m : ℕ) → IfOk answer (λ _. n ≤ m) → IfOk result (λ _. n ≤ m) }
@@ -384,7 +384,7 @@ pub fn initialised(
 }
 
 /// The variables after the mark end with a block.
-pub fn end_block(answer: Ran<Flow, RunEnd>, mark: usize, st: &mut State) -> Result<Flow>
+pub fn end_block(answer: Ran<Flow>, mark: usize, st: &mut State) -> Ran<Flow>
     ensures does { (before : Known) (run : Run LeftBy) → DoesAs view_flow before answer (view_state st.old) run
         → DoesAs view_flow before result (view_state st.new) (ends_block mark run) }
     ensures fuel { st.new.fuel ≤ st.old.fuel }
@@ -414,7 +414,7 @@ fn left_of(flow: Flow) -> (Site, i64)
 }
 
 /// Where a function is left, and its result.
-pub fn left_behind(answer: Ran<Value, RunEnd>) -> Result<(Site, i64)>
+pub fn left_behind(answer: Ran<Value>) -> Ran<(Site, i64)>
     ensures does { (before after : Known) (run : Run (Where × ℤ))
         → DoesAs view_value before answer after (gives as_left run) → Does before result after run }
 {

@@ -108,7 +108,7 @@ pub fn based(program: &Moded, site: Site, expr: &Expr, pointer: i64, st: &mut St
     base(site, kind_of(program, expr), pointer, st)
 }
 
-pub fn resulting(site: Site, value: Ran<i64, Trap>, st: &State) -> Result<i64>
+pub fn resulting(site: Site, value: Result<i64, Trap>, st: &State) -> Ran<i64>
     ensures { Does (view_state st.now) result (view_state st.now) (resulting site value) }
 {
     match value {

@@ -103,7 +103,7 @@ enum Stepped<'a> {
     Goes(At<'a>),
 }
 
-fn further<'a>(answer: Ran<At<'a>, RunEnd>) -> Result<Stepped<'a>>
+fn further<'a>(answer: Ran<At<'a>>) -> Ran<Stepped<'a>>
     ensures steps { (m : Assignment) (before after : Known) (stack stack1 : List Kept) (run : Run Meant)
         → Moves m before stack answer.entry after stack1 run → Steps m before stack result after stack1 run }
     ensures ends { (before after : ℕ) → IfOk answer.entry (λ at. after + size at.plan < before)
