@@ -1,9 +1,9 @@
 // From the meaning of a program to its flat form.
 
-ghost use Rattle.std.specs.Prelude.{◌≡◌, ◌≤◌, IfOk};
+ghost use Rattle.std.specs.Prelude.{◌≡◌, ◌≤◌, length, IfOk};
 ghost use Rattle.sharc_ctype.specs.Resolved.{functions_in, globals_in};
-ghost use Rattle.sharc_flat.specs.{Made.flat_of, Flattened.{rows_of, functions_code}, Flattens.Flattens};
-ghost use Rattle.sharc_flat.specs.{Flattens.IsMainOf, Laws.FitsMade, Tables.globals_of};
+ghost use Rattle.sharc_flat.specs.{Made.flat_of, Flattened.{rows_of, functions_code}, Flattens.{names_of, Flattens}};
+ghost use Rattle.sharc_flat.specs.{Flattens.IsMainOf, Laid.{AreTold, AreNamed}, Laws.FitsMade, Tables.globals_of};
 ghost use Rattle.sharc_flat.specs.Tables.{all_granules, all_first_words};
 
 use crate::functions::functions;
@@ -15,7 +15,7 @@ use crate::source::PlacedProgram;
 use crate::texts::{TokenTexts, lay_names};
 use sharc_code::Function;
 use sharc_ctype::typed::Typed;
-use sharc_flat::{Flat, Op};
+use sharc_flat::{Flat, LineTexts, Op};
 use sharc_mode::moded::Moded;
 use std::alloc::{AllocError, Global};
 
@@ -25,6 +25,13 @@ struct ProgramParts {
     lines: Vec<Op>,
     functions: Vec<Function>,
     globals: Globals,
+}
+
+/// The bytes of all texts, and where those of each line lie.
+#[derive(Drop)]
+struct ProgramTexts {
+    bytes: Vec<u8>,
+    told: Vec<LineTexts>,
 }
 
 /// The number of `main`, which every typed program has.
@@ -71,6 +78,26 @@ fn parts_of(alloc: Global, program: &Moded) -> Result<ProgramParts, AllocError>
     })
 }
 
+/// The bytes of all texts, and where those of each line lie; the rows get the places of theirs.
+fn lay_texts(
+    alloc: Global,
+    typed: &Typed,
+    lines: &[Op],
+    rows: &mut Vec<Function>,
+) -> Result<ProgramTexts, AllocError>
+    requires { length rows.old.items ≡ length (functions_in typed.now.program.items) }
+    ensures told { IfOk result (λ all. AreTold typed.now all.bytes.items lines.now all.told.items) }
+    ensures rows { IfOk result (λ all.
+        AreNamed all.bytes.items rows.old.items (names_of (functions_in typed.now.program.items)) rows.new.items) }
+{
+    let mut bytes = Vec::new(alloc);
+    let words = TokenTexts::of(alloc, typed, &mut bytes)?;
+    let told = words.lay(alloc, lines, &mut bytes)?;
+    drop(words);
+    lay_names(typed, rows, &mut bytes)?;
+    Ok(ProgramTexts { bytes, told })
+}
+
 /// A number of granules that a state may have; else there would not be enough memory.
 fn few_granules(granules: u32) -> Result<u32, AllocError>
     ensures is { IfOk result (λ n. n ≡ granules) }
@@ -96,11 +123,7 @@ pub fn flatten(alloc: Global, program: &Moded) -> Result<Flat, AllocError>
         mut functions,
         globals,
     } = parts_of(alloc, program)?;
-    let mut texts = Vec::new(alloc);
-    let words = TokenTexts::of(alloc, t, &mut texts)?;
-    let told = words.lay(alloc, lines.as_slice(), &mut texts)?;
-    drop(words);
-    lay_names(t, &mut functions, &mut texts)?;
+    let ProgramTexts { bytes, told } = lay_texts(alloc, t, lines.as_slice(), &mut functions)?;
     frames_fit(functions.as_slice())?;
     cells_fit(lines.as_slice())?;
     let layouts = layouts_of(alloc, t)?;
@@ -115,7 +138,7 @@ pub fn flatten(alloc: Global, program: &Moded) -> Result<Flat, AllocError>
         initial: globals.initial,
         layouts: layouts.list,
         pointers: layouts.pointers,
-        texts,
+        texts: bytes,
         files,
     })
 }
