@@ -16,7 +16,7 @@ use crate::parts::{end_above, zero_behind};
 use crate::plan::{After, Call, Plan, Rest, Task, Value, WithValue};
 use crate::plans::done_number;
 use crate::stack::{At, Caller, Later, Left, PendingCall, push};
-use crate::state::{Ran, RunEnd, State, enter};
+use crate::state::{Goes, RunEnd, State, enter};
 use crate::values::{Flow, parameters_named, rest_of};
 use crate::waiting::condition_call;
 use sharc_mode::moded::Moded;
@@ -33,7 +33,7 @@ pub fn enter_function<'a>(
     values: &[i64],
     stack: &mut Vec<Left<'a>>,
     st: &mut State,
-) -> Ran<At<'a>>
+) -> Goes<At<'a>>
     ensures moves { (m : Assignment) → Moves m (view_state st.old) (stack_of stack.old) result (view_state st.new)
         (stack_of stack.new) (gives as_left (run_function (calls m frames) m (view_function function.now) values.now)) }
     ensures ends { IfOk result (λ at. 64 * st.new.fuel + size at.plan + load (stack_of stack.new) + 61
@@ -53,7 +53,7 @@ pub fn enter_function<'a>(
 }
 
 /// The frame of a function whose body is left so ends.
-pub fn return_to<'a>(frames: u32, caller: Caller<'a>, flow: Flow, st: &mut State) -> Ran<At<'a>>
+pub fn return_to<'a>(frames: u32, caller: Caller<'a>, flow: Flow, st: &mut State) -> Goes<At<'a>>
     ensures moves { (m : Assignment) (stack : List Kept) (f : Behind) (v : Meant) → IsCaller caller.entry f
         → flow_in v ≡ view_flow flow → Moves m (view_state st.old) stack result (view_state st.new) stack (f v) }
     ensures ends { IfOk result (λ at. 64 * st.new.fuel + size at.plan ≤ 64 * st.old.fuel) }
@@ -71,7 +71,7 @@ pub fn return_to<'a>(frames: u32, caller: Caller<'a>, flow: Flow, st: &mut State
 }
 
 // A call of what is no function is 0.
-fn no_call<'a>(frames: u32, mark: usize, st: &mut State) -> Ran<At<'a>>
+fn no_call<'a>(frames: u32, mark: usize, st: &mut State) -> Goes<At<'a>>
     ensures moves { (m : Assignment) (stack : List Kept) → Moves m (view_state st.old) stack result
         (view_state st.new) stack (gives number (ends_above mark (give (pos 0)))) }
     ensures ends { IfOk result (λ at. 64 * st.new.fuel + size at.plan ≤ 64 * st.old.fuel) }
@@ -89,7 +89,7 @@ fn call_function<'a>(
     values: &[i64],
     stack: &mut Vec<Left<'a>>,
     st: &mut State,
-) -> Ran<At<'a>>
+) -> Goes<At<'a>>
     ensures moves { Moves program.now (view_state st.old) (stack_of stack.old) result (view_state st.new)
         (stack_of stack.new) (gives number (ends_above mark (calls program.now frames called site values.now))) }
     ensures ends { IfOk result (λ at. 64 * st.new.fuel + size at.plan + load (stack_of stack.new)
@@ -115,7 +115,7 @@ fn call_named<'a>(
     values: &[i64],
     stack: &mut Vec<Left<'a>>,
     st: &mut State,
-) -> Ran<At<'a>>
+) -> Goes<At<'a>>
     ensures moves { Moves program.now (view_state st.old) (stack_of stack.old) result (view_state st.new)
         (stack_of stack.new) (gives number (ends_above mark
         (called (calls program.now frames) call.entry.site call.entry.named call.entry.name.now values.now))) }
@@ -145,7 +145,7 @@ fn pass<'a>(
     passing: PendingCall<'a>,
     stack: &mut Vec<Left<'a>>,
     st: &mut State,
-) -> Ran<At<'a>>
+) -> Goes<At<'a>>
     ensures moves { let p = passing.entry in Moves program.now (view_state st.old) (stack_of stack.old) result
         (view_state st.new) (stack_of stack.new) (awaits (calls program.now frames) program.now p.call p.mark
         (declared_kinds p.parameters.now) (view_arguments p.arguments.now) p.values.items) }
@@ -190,7 +190,7 @@ pub fn pass_value<'a>(
     value: i64,
     stack: &mut Vec<Left<'a>>,
     st: &mut State,
-) -> Ran<At<'a>>
+) -> Goes<At<'a>>
     ensures moves { let p = passing.entry in Moves program.now (view_state st.old) (stack_of stack.old) result
         (view_state st.new) (stack_of stack.new) (awaits (calls program.now frames) program.now p.call p.mark
         (declared_kinds p.parameters.now) (view_arguments p.arguments.now) (p.values.items ++ value ∷ [])) }
@@ -220,7 +220,7 @@ pub fn begin_call<'a>(
     call: Call<'a>,
     stack: &mut Vec<Left<'a>>,
     st: &mut State,
-) -> Ran<At<'a>>
+) -> Goes<At<'a>>
     ensures moves { Moves program.now (view_state st.old) (stack_of stack.old) result (view_state st.new)
         (stack_of stack.new) (gives number (calling (calls program.now frames) program.now call.entry.site
         call.entry.named call.entry.name.now (view_arguments call.entry.arguments.now))) }

@@ -13,7 +13,7 @@ use crate::arithmetic::width_of;
 use crate::places::{LvaluePlace, place_named};
 use crate::plan::{Call, Operation, Plan, Rest, Task, Value, WithPlace, WithValue};
 use crate::plans::done_number;
-use crate::state::{Ran, State, enter};
+use crate::state::{Goes, State, enter};
 use crate::values::{constant_value, kind_of, logic_of, named, named_value};
 use sharc_mode::moded::Moded;
 use sharc_names::fault::Named;
@@ -167,7 +167,7 @@ fn cast_plan<'a>(expr: &'a Expr, span: Span, source: &'a Expr, st: &State) -> Pl
     Plan::Goes(place, Rest::Place(source, WithPlace::Casts(span, mark)))
 }
 
-fn eval_plan<'a>(program: &'a Moded, expr: &'a Expr, st: &mut State) -> Ran<Plan<'a>>
+fn eval_plan<'a>(program: &'a Moded, expr: &'a Expr, st: &mut State) -> Goes<Plan<'a>>
     ensures means { (on_call : Calls) → Plans on_call program.now (view_state st.old) result (view_state st.new)
         (inside (gives number (eval on_call program.now (view_expr expr.now)))) }
     ensures fits { IfOk result (Fits 15) }
@@ -213,7 +213,7 @@ fn eval_plan<'a>(program: &'a Moded, expr: &'a Expr, st: &mut State) -> Ran<Plan
 }
 
 /// The value of an expression.
-pub fn begin_eval<'a>(program: &'a Moded, expr: &'a Expr, st: &mut State) -> Ran<Plan<'a>>
+pub fn begin_eval<'a>(program: &'a Moded, expr: &'a Expr, st: &mut State) -> Goes<Plan<'a>>
     ensures means { (on_call : Calls) → Plans on_call program.now (view_state st.old) result (view_state st.new)
         (gives number (eval on_call program.now (view_expr expr.now))) }
     ensures begins { IfOk result (Begins 1 st.old.fuel st.new.fuel) }
@@ -273,7 +273,7 @@ pub fn begin_place<'a>(
     site: Site,
     expr: &'a Expr,
     st: &mut State,
-) -> Ran<Plan<'a>>
+) -> Goes<Plan<'a>>
     ensures means { (on_call : Calls) → Plans on_call program.now (view_state st.old) result (view_state st.new)
         (gives place (place_of on_call program.now site (view_expr expr.now))) }
     ensures begins { IfOk result (Begins 1 st.old.fuel st.new.fuel) }

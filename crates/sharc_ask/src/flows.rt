@@ -13,7 +13,7 @@ ghost use Rattle.sharc_ask.specs.Plans.{Plans, Fits, Starts, Begins, weight, aft
 use crate::parts::{end_above, end_block};
 use crate::plan::{After, Loop, Plan, Rest, Task, Value, flow_in, test_in};
 use crate::plans::{done_flow, done_number};
-use crate::state::{Ran, RunEnd, State, enter};
+use crate::state::{Goes, RunEnd, State, enter};
 use crate::values::{Flow, body_of, left_by, number_left, step_of, test_of};
 use sharc_names::kind::ExpressionKind;
 use sharc_tree::tree::Stmt;
@@ -67,7 +67,7 @@ fn begin_statement<'a>(
     statement: &'a Stmt,
     rest: Rest<'a>,
     st: &mut State,
-) -> Ran<Plan<'a>>
+) -> Goes<Plan<'a>>
     ensures means { (on_call : Calls) (m : Assignment) → Plans on_call m (view_state st.old) result (view_state st.new)
         (goes_on on_call m (gives flow (exec on_call m (view_kind kind.entry) (view_stmt statement.now))) rest.entry) }
     ensures begins { IfOk result (λ p. 64 * st.new.fuel + size p + 45 ≤ 64 * st.old.fuel + weight rest.entry) }
@@ -77,7 +77,7 @@ fn begin_statement<'a>(
 }
 
 /// The statements of a list.
-pub fn begin_all<'a>(kind: ExpressionKind<'a>, all: &'a [Stmt], st: &mut State) -> Ran<Plan<'a>>
+pub fn begin_all<'a>(kind: ExpressionKind<'a>, all: &'a [Stmt], st: &mut State) -> Goes<Plan<'a>>
     ensures means { (on_call : Calls) (m : Assignment) → Plans on_call m (view_state st.old) result (view_state st.new)
         (gives flow (exec_all on_call m (view_kind kind.entry) (view_statements all.now))) }
     ensures begins { IfOk result (Begins 1 st.old.fuel st.new.fuel) }
@@ -91,7 +91,7 @@ pub fn begin_all<'a>(kind: ExpressionKind<'a>, all: &'a [Stmt], st: &mut State) 
 }
 
 /// At most so many turns of a loop.
-pub fn turns_plan<'a>(number: u64, l: Loop<'a>, st: &State) -> Ran<Plan<'a>>
+pub fn turns_plan<'a>(number: u64, l: Loop<'a>, st: &State) -> Goes<Plan<'a>>
     ensures means { (on_call : Calls) (m : Assignment) → Plans on_call m (view_state st.now) result (view_state st.now)
         (gives flow (turns_of on_call m l.entry number)) }
     ensures starts { IfOk result (Starts 7) }
@@ -127,7 +127,7 @@ fn behind_body<'a>(number: u64, l: Loop<'a>, left: Flow) -> Plan<'a>
     }
 }
 
-fn behind_test<'a>(number: u64, l: Loop<'a>, goes_on: bool, st: &mut State) -> Ran<Plan<'a>>
+fn behind_test<'a>(number: u64, l: Loop<'a>, goes_on: bool, st: &mut State) -> Goes<Plan<'a>>
     ensures means { (on_call : Calls) (m : Assignment) → Plans on_call m (view_state st.old) result (view_state st.new)
         (gives flow (tested_done on_call m l.entry number goes_on)) }
     ensures begins { IfOk result (Begins 1 st.old.fuel st.new.fuel) }
@@ -150,7 +150,7 @@ fn behind_choice<'a>(
     otherwise: Option<&'a Stmt>,
     is_true: bool,
     st: &mut State,
-) -> Ran<Plan<'a>>
+) -> Goes<Plan<'a>>
     ensures means { (on_call : Calls) (m : Assignment)
         → Plans on_call m (view_state st.old) result (view_state st.new) (gives flow
         (chosen_done on_call m (view_kind kind.entry) (view_stmt body.now) (view_otherwise otherwise.entry) is_true)) }
@@ -179,7 +179,7 @@ fn behind_listed<'a>(kind: ExpressionKind<'a>, rest: &'a [Stmt], left: Flow) -> 
 }
 
 /// What goes on behind a part of a statement that came to this value.
-pub fn with_after<'a>(after: After<'a>, value: Value, st: &mut State) -> Ran<Plan<'a>>
+pub fn with_after<'a>(after: After<'a>, value: Value, st: &mut State) -> Goes<Plan<'a>>
     ensures means { (on_call : Calls) (m : Assignment) → Plans on_call m (view_state st.old) result (view_state st.new)
         (after_means on_call m after.entry (view_value value)) }
     ensures begins { IfOk result (Begins (after_weight after.entry) st.old.fuel st.new.fuel) }

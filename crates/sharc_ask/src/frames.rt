@@ -6,7 +6,7 @@ ghost use Rattle.sharc_names.specs.Kinds.{declared_kind, is_pointer};
 ghost use Rattle.sharc_meaning.specs.{State.pointers_among, Meaning.{parameters_begin, left_at}};
 ghost use Rattle.sharc_ask.specs.{StepView.{view_state, Does}, View.{view_flow, WasKept}};
 
-use crate::state::{Frame, Ran, State, begin};
+use crate::state::{Frame, Goes, State, begin};
 use crate::values::Flow;
 use sharc_meaning::variable::Variable;
 use sharc_names::kind::{declared_kind, is_pointer};
@@ -15,7 +15,7 @@ use sharc_tree::tree::{Declaration, FunctionDefinition};
 use std::alloc::Global;
 
 /// Each parameter with its argument, where there is one, else with 0 or NULL.
-pub fn begin_parameters(parameters: &[Declaration], values: &[i64], st: &mut State) -> Ran<()>
+pub fn begin_parameters(parameters: &[Declaration], values: &[i64], st: &mut State) -> Goes<()>
     ensures does { Does (view_state st.old) result (view_state st.new) (parameters_begin parameters.now values.now) }
     ensures fuel { st.new.fuel ≤ st.old.fuel }
 {

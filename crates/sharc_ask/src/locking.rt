@@ -5,7 +5,7 @@ ghost use Rattle.sharc_meaning.specs.Waiting.{cell_at_place, moves_base, gives_u
 ghost use Rattle.sharc_ask.specs.{StepView.{view_state, view_place, Does}, Waking.stops_where_held};
 
 use crate::places::LvaluePlace;
-use crate::state::{Ran, State, give_up, is_among, move_on, perform, unless};
+use crate::state::{Goes, State, give_up, is_among, move_on, perform, unless};
 use crate::waiting::unless_held;
 use sharc_meaning::given::GivenUp;
 use sharc_tree::event::{Act, CellAt, Object};
@@ -25,7 +25,7 @@ fn cell_at_place(place: LvaluePlace) -> CellAt
 }
 
 // The run stops where the thread holds the mutex.
-fn unless_held_already(cell: CellAt, site: Site, st: &State) -> Ran<()>
+fn unless_held_already(cell: CellAt, site: Site, st: &State) -> Goes<()>
     ensures { Does (view_state st.now) result (view_state st.now) (stops_where_held cell site) }
 {
     unless(
@@ -36,7 +36,7 @@ fn unless_held_already(cell: CellAt, site: Site, st: &State) -> Ran<()>
     )
 }
 
-fn moves_base(place: LvaluePlace, st: &mut State) -> Ran<()>
+fn moves_base(place: LvaluePlace, st: &mut State) -> Goes<()>
     ensures does { Does (view_state st.old) result (view_state st.new) (moves_base (view_place place)) }
     ensures fuel { st.new.fuel ≤ st.old.fuel }
 {
@@ -47,7 +47,7 @@ fn moves_base(place: LvaluePlace, st: &mut State) -> Ran<()>
     }
 }
 
-fn gives_up_base(place: LvaluePlace, st: &mut State) -> Ran<()>
+fn gives_up_base(place: LvaluePlace, st: &mut State) -> Goes<()>
     ensures does { Does (view_state st.old) result (view_state st.new) (gives_up_base (view_place place)) }
     ensures fuel { st.new.fuel ≤ st.old.fuel }
 {
@@ -59,7 +59,7 @@ fn gives_up_base(place: LvaluePlace, st: &mut State) -> Ran<()>
 }
 
 /// A mutex that the thread holds already stops, and so does a seventeenth.
-pub fn lock_call(site: Site, place: LvaluePlace, st: &mut State) -> Ran<()>
+pub fn lock_call(site: Site, place: LvaluePlace, st: &mut State) -> Goes<()>
     ensures does { Does (view_state st.old) result (view_state st.new) (lock_call site (view_place place)) }
     ensures fuel { st.new.fuel ≤ st.old.fuel }
 {
@@ -71,7 +71,7 @@ pub fn lock_call(site: Site, place: LvaluePlace, st: &mut State) -> Ran<()>
 }
 
 /// A mutex that it does not hold stops.
-pub fn unlock_call(site: Site, place: LvaluePlace, st: &mut State) -> Ran<()>
+pub fn unlock_call(site: Site, place: LvaluePlace, st: &mut State) -> Goes<()>
     ensures does { Does (view_state st.old) result (view_state st.new) (unlock_call site (view_place place)) }
     ensures fuel { st.new.fuel ≤ st.old.fuel }
 {

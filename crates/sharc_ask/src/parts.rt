@@ -19,7 +19,7 @@ use crate::cells::{elements_of, number_of};
 use crate::endings::{end_temporaries, end_variables};
 use crate::places::{LvaluePlace, element, element_of_array, pointee, stored};
 use crate::plan::{Operation, Value, flow_in};
-use crate::state::{Ran, RunEnd, State, ask_event, moves, perform, unless};
+use crate::state::{Goes, RunEnd, State, ask_event, moves, perform, unless};
 use crate::values::{
     Flow, based, cells_of, freed_unless_null, held, kind_of, let_go, number_named,
     parameters_named, resulting, value_act,
@@ -35,7 +35,7 @@ use sharc_tree::trap::Trap;
 use sharc_tree::tree::{Declaration, Expr, ValueCall};
 
 /// The temporaries after the mark end, where a number came.
-pub fn end_above(answer: Ran<i64>, mark: usize, st: &mut State) -> Ran<i64>
+pub fn end_above(answer: Goes<i64>, mark: usize, st: &mut State) -> Goes<i64>
     ensures does { (before : Known) (run : Run ℤ) → Does before answer (view_state st.old) run
         → Does before result (view_state st.new) (ends_above mark run) }
     ensures fuel { st.new.fuel ≤ st.old.fuel }
@@ -49,7 +49,7 @@ pub fn end_above(answer: Ran<i64>, mark: usize, st: &mut State) -> Ran<i64>
 }
 
 /// Likewise, of a step.
-pub fn end_step(answer: Ran<()>, mark: usize, st: &mut State) -> Ran<()>
+pub fn end_step(answer: Goes<()>, mark: usize, st: &mut State) -> Goes<()>
     ensures does { (before : Known) (run : Step) → Does before answer (view_state st.old) run
         → Does before result (view_state st.new) (ends_above mark run) }
     ensures fuel { st.new.fuel ≤ st.old.fuel }
@@ -63,7 +63,7 @@ pub fn end_step(answer: Ran<()>, mark: usize, st: &mut State) -> Ran<()>
 }
 
 /// A step, and then 0.
-pub fn zero_behind(answer: Ran<()>) -> Ran<i64>
+pub fn zero_behind(answer: Goes<()>) -> Goes<i64>
     ensures does { (before after : Known) (run : Step) → Does before answer after run
         → Does before result after (zero_behind run) }
     ensures kept { (n m : ℕ) → IfOk answer (λ _. n ≤ m) → IfOk result (λ _. n ≤ m) }
@@ -73,7 +73,7 @@ pub fn zero_behind(answer: Ran<()>) -> Ran<i64>
 }
 
 /// Whether a value is neither 0 nor NULL.
-pub fn tested_value(program: &Moded, expr: &Expr, value: i64, st: &mut State) -> Ran<bool>
+pub fn tested_value(program: &Moded, expr: &Expr, value: i64, st: &mut State) -> Goes<bool>
     ensures does { Does (view_state st.old) result (view_state st.new)
         (tested program.now.typed (view_expr expr.now) (give value)) }
     ensures fuel { st.new.fuel ≤ st.old.fuel }
@@ -82,7 +82,7 @@ pub fn tested_value(program: &Moded, expr: &Expr, value: i64, st: &mut State) ->
     Ok(!is_zero(value))
 }
 
-pub fn truth_of(program: &Moded, expr: &Expr, value: i64, st: &mut State) -> Ran<i64>
+pub fn truth_of(program: &Moded, expr: &Expr, value: i64, st: &mut State) -> Goes<i64>
     ensures does { Does (view_state st.old) result (view_state st.new)
         (truth_with program.now.typed (view_expr expr.now) value) }
     ensures fuel { st.new.fuel ≤ st.old.fuel }
@@ -91,7 +91,7 @@ pub fn truth_of(program: &Moded, expr: &Expr, value: i64, st: &mut State) -> Ran
     Ok(truth(is_true))
 }
 
-pub fn inverted(program: &Moded, expr: &Expr, value: i64, st: &mut State) -> Ran<i64>
+pub fn inverted(program: &Moded, expr: &Expr, value: i64, st: &mut State) -> Goes<i64>
     ensures does { Does (view_state st.old) result (view_state st.new)
         (inverted_with program.now.typed (view_expr expr.now) value) }
     ensures fuel { st.new.fuel ≤ st.old.fuel }
@@ -101,7 +101,7 @@ pub fn inverted(program: &Moded, expr: &Expr, value: i64, st: &mut State) -> Ran
 }
 
 /// The negative in the type of `-a`.
-pub fn negative(program: &Moded, site: Site, expr: &Expr, value: i64, st: &State) -> Ran<i64>
+pub fn negative(program: &Moded, site: Site, expr: &Expr, value: i64, st: &State) -> Goes<i64>
     ensures { Does (view_state st.now) result (view_state st.now)
         (resulting site (negated (bits_of (promoted (kind_at program.now.typed (view_expr expr.now)))) value)) }
 {
@@ -110,7 +110,7 @@ pub fn negative(program: &Moded, site: Site, expr: &Expr, value: i64, st: &State
 }
 
 /// A value that is held in a temporary.
-pub fn operand_value(program: &Moded, expr: &Expr, value: i64, st: &mut State) -> Ran<i64>
+pub fn operand_value(program: &Moded, expr: &Expr, value: i64, st: &mut State) -> Goes<i64>
     ensures does { Does (view_state st.old) result (view_state st.new)
         (operand program.now.typed (view_expr expr.now) (give value)) }
     ensures fuel { st.new.fuel ≤ st.old.fuel }
@@ -120,7 +120,7 @@ pub fn operand_value(program: &Moded, expr: &Expr, value: i64, st: &mut State) -
 }
 
 /// A value that what it goes to has to hold.
-pub fn fitted(kind: ExpressionKind<'_>, expr: &Expr, value: i64, st: &State) -> Ran<i64>
+pub fn fitted(kind: ExpressionKind<'_>, expr: &Expr, value: i64, st: &State) -> Goes<i64>
     ensures { Does (view_state st.now) result (view_state st.now)
         (fitting (view_kind kind.entry) (view_expr expr.now) (give value)) }
 {
@@ -134,7 +134,7 @@ pub fn returned(
     expr: &Expr,
     value: i64,
     st: &State,
-) -> Ran<Flow>
+) -> Goes<Flow>
     ensures { DoesAs view_flow (view_state st.now) result (view_state st.now)
         (returned_with (view_kind kind.entry) site (view_expr expr.now) value) }
 {
@@ -148,7 +148,7 @@ fn fitted_operand(
     expr: &Expr,
     value: i64,
     st: &mut State,
-) -> Ran<i64>
+) -> Goes<i64>
     ensures does { Does (view_state st.old) result (view_state st.new) (operand program.now.typed (view_expr expr.now)
         (fitting (view_kind kind.entry) (view_expr expr.now) (give value))) }
     ensures fuel { st.new.fuel ≤ st.old.fuel }
@@ -164,7 +164,7 @@ pub fn passed_value(
     expr: &Expr,
     value: i64,
     st: &mut State,
-) -> Ran<i64>
+) -> Goes<i64>
     ensures does { Does (view_state st.old) result (view_state st.new)
         (passed program.now.typed (declared_kinds parameters.now) (view_expr expr.now) (give value)) }
     ensures fuel { st.new.fuel ≤ st.old.fuel }
@@ -188,7 +188,7 @@ fn spawned_value(
     expr: &Expr,
     value: i64,
     st: &mut State,
-) -> Ran<i64>
+) -> Goes<i64>
     ensures does { Does (view_state st.old) result (view_state st.new)
         (spawned_with program.now.typed site named (view_expr expr.now) value) }
     ensures fuel { st.new.fuel ≤ st.old.fuel }
@@ -208,7 +208,7 @@ pub fn spawned(
     value: i64,
     mark: usize,
     st: &mut State,
-) -> Ran<i64>
+) -> Goes<i64>
     ensures does { Does (view_state st.old) result (view_state st.new)
         (ends_above mark (spawned_with program.now.typed site named (view_expr expr.now) value)) }
     ensures fuel { st.new.fuel ≤ st.old.fuel }
@@ -221,7 +221,7 @@ pub fn spawned(
 }
 
 /// `join` and `print`
-pub fn value_called(site: Site, word: ValueCall, value: i64, st: &mut State) -> Ran<i64>
+pub fn value_called(site: Site, word: ValueCall, value: i64, st: &mut State) -> Goes<i64>
     ensures does { Does (view_state st.old) result (view_state st.new) (value_called site word (give value)) }
     ensures fuel { st.new.fuel ≤ st.old.fuel }
 {
@@ -229,7 +229,7 @@ pub fn value_called(site: Site, word: ValueCall, value: i64, st: &mut State) -> 
 }
 
 /// `free` of what was taken.
-pub fn freed_with(site: Site, value: i64, st: &mut State) -> Ran<i64>
+pub fn freed_with(site: Site, value: i64, st: &mut State) -> Goes<i64>
     ensures does { Does (view_state st.old) result (view_state st.new) (free_unless_null site value) }
     ensures fuel { st.new.fuel ≤ st.old.fuel }
 {
@@ -243,7 +243,7 @@ fn joined_value(
     expr: &Expr,
     right: i64,
     st: &mut State,
-) -> Ran<i64>
+) -> Goes<i64>
     ensures does { Does (view_state st.old) result (view_state st.new) (joined_with program.now.typed
         (value_bits operation.width) operation.site operation.operator (view_expr expr.now) left (give right)) }
     ensures fuel { st.new.fuel ≤ st.old.fuel }
@@ -264,7 +264,7 @@ pub fn joined(
     expr: &Expr,
     right: i64,
     st: &mut State,
-) -> Ran<i64>
+) -> Goes<i64>
     ensures does { Does (view_state st.old) result (view_state st.new)
         (ends_above operation.mark (joined_with program.now.typed
         (value_bits operation.width) operation.site operation.operator (view_expr expr.now) left (give right))) }
@@ -285,7 +285,7 @@ pub fn element_in(
     base: LvaluePlace,
     number: i64,
     st: &State,
-) -> Ran<LvaluePlace>
+) -> Goes<LvaluePlace>
     ensures { DoesAs view_place (view_state st.now) result (view_state st.now)
         (element_in program.now.typed site (view_expr array.now) (view_place base) number) }
 {
@@ -300,7 +300,7 @@ pub fn element_behind(
     pointer: i64,
     number: i64,
     st: &State,
-) -> Ran<LvaluePlace>
+) -> Goes<LvaluePlace>
     ensures { DoesAs view_place (view_state st.now) result (view_state st.now)
         (element_behind program.now.typed site (view_expr pointed.now) pointer number) }
 {
@@ -321,7 +321,7 @@ pub fn first_behind(
     pointed: &Expr,
     pointer: i64,
     st: &mut State,
-) -> Ran<LvaluePlace>
+) -> Goes<LvaluePlace>
     ensures does { DoesAs view_place (view_state st.old) result (view_state st.new)
         (pointee_place program.now.typed site (view_expr pointed.now) (give pointer)) }
     ensures fuel { st.new.fuel ≤ st.old.fuel }
@@ -338,7 +338,7 @@ pub fn stored_at(
     value: i64,
     mark: usize,
     st: &mut State,
-) -> Ran<()>
+) -> Goes<()>
     ensures does { Does (view_state st.old) result (view_state st.new)
         (ends_above mark (assigned_to program.now (view_expr expr.now) (view_place place) (give value))) }
     ensures fuel { st.new.fuel ≤ st.old.fuel }
@@ -365,7 +365,7 @@ pub fn initialised(
     declaration: &Declaration,
     value: i64,
     st: &mut State,
-) -> Ran<()>
+) -> Goes<()>
     ensures does { Does (view_state st.old) result (view_state st.new)
         (stored program.now.typed declaration.now.name.site (declared_kind declaration.now.written) private
         (variable declaration.now.name.site.token) value) }
@@ -384,7 +384,7 @@ pub fn initialised(
 }
 
 /// The variables after the mark end with a block.
-pub fn end_block(answer: Ran<Flow>, mark: usize, st: &mut State) -> Ran<Flow>
+pub fn end_block(answer: Goes<Flow>, mark: usize, st: &mut State) -> Goes<Flow>
     ensures does { (before : Known) (run : Run LeftBy) → DoesAs view_flow before answer (view_state st.old) run
         → DoesAs view_flow before result (view_state st.new) (ends_block mark run) }
     ensures fuel { st.new.fuel ≤ st.old.fuel }
@@ -414,7 +414,7 @@ fn left_of(flow: Flow) -> (Site, i64)
 }
 
 /// Where a function is left, and its result.
-pub fn left_behind(answer: Ran<Value>) -> Ran<(Site, i64)>
+pub fn left_behind(answer: Goes<Value>) -> Goes<(Site, i64)>
     ensures does { (before after : Known) (run : Run (Where × ℤ))
         → DoesAs view_value before answer after (gives as_left run) → Does before result after run }
 {

@@ -16,8 +16,8 @@ ghost use Rattle.sharc_ask.specs.StepView.{view_state, view_guard, view_place, D
 use crate::arithmetic::is_zero;
 use crate::cells::{Guard, global_elements, guard_of, instance_mode, number_of};
 use crate::state::{
-    Ran, RunEnd, State, ask_event, dropped, give_up, hold, hold_reference, move_on, moves, perform,
-    set, unless, value_in,
+    Goes, RunEnd, State, ask_event, dropped, give_up, hold, hold_reference, move_on, moves,
+    perform, set, unless, value_in,
 };
 use sharc_meaning::given::GivenUp;
 use sharc_mode::moded::Moded;
@@ -55,7 +55,7 @@ pub fn pointee(pointer: i64) -> LvaluePlace
 
 /// The place of the field this many cells after the element's first. A cell that has no number of 64 bits is answered
 /// as out of memory.
-pub fn field_in(number: u64, place: LvaluePlace, st: &State) -> Ran<LvaluePlace>
+pub fn field_in(number: u64, place: LvaluePlace, st: &State) -> Goes<LvaluePlace>
     ensures { DoesAs view_place (view_state st.now) result (view_state st.now)
         (give (field_in number (view_place place))) }
 {
@@ -69,7 +69,7 @@ pub fn field_in(number: u64, place: LvaluePlace, st: &State) -> Ran<LvaluePlace>
 }
 
 /// A base that is a pointer is held by a temporary, and NULL stops.
-pub fn base(site: Site, kind: ExpressionKind<'_>, pointer: i64, st: &mut State) -> Ran<()>
+pub fn base(site: Site, kind: ExpressionKind<'_>, pointer: i64, st: &mut State) -> Goes<()>
     ensures does { Does (view_state st.old) result (view_state st.new) (based site (view_kind kind.entry) pointer) }
     ensures fuel { st.new.fuel ≤ st.old.fuel }
 {
@@ -85,7 +85,7 @@ pub fn element(
     elements: u64,
     index: i64,
     st: &State,
-) -> Ran<LvaluePlace>
+) -> Goes<LvaluePlace>
     ensures { DoesAs view_place (view_state st.now) result (view_state st.now)
         (element site object cells elements index) }
 {
@@ -110,7 +110,7 @@ pub fn element_of_array(
     array: LvaluePlace,
     index: i64,
     st: &State,
-) -> Ran<LvaluePlace>
+) -> Goes<LvaluePlace>
     ensures { DoesAs view_place (view_state st.now) result (view_state st.now)
         (element_of_array program.now.typed site cells (view_place array) index) }
 {
@@ -129,7 +129,7 @@ pub fn element_of_array(
 }
 
 /// The mutex that guards; where it is found by a Read of the pointer cell, NULL stops.
-pub fn guarding(site: Site, guard: Guard, st: &mut State) -> Ran<CellAt>
+pub fn guarding(site: Site, guard: Guard, st: &mut State) -> Goes<CellAt>
     ensures does { Does (view_state st.old) result (view_state st.new) (guarding site (view_guard guard)) }
     ensures fuel { st.new.fuel ≤ st.old.fuel }
 {
@@ -154,7 +154,7 @@ fn locked_mode(
     object: Object,
     first: u64,
     st: &mut State,
-) -> Ran<CellMode>
+) -> Goes<CellMode>
     ensures does { Does (view_state st.old) result (view_state st.new)
         (access_mode program.now.typed site (locked (view_lock lock.entry)) object first) }
     ensures fuel { st.new.fuel ≤ st.old.fuel }
@@ -182,7 +182,7 @@ pub fn access_mode(
     object: Object,
     first: u64,
     st: &mut State,
-) -> Ran<CellMode>
+) -> Goes<CellMode>
     ensures does { Does (view_state st.old) result (view_state st.new)
         (access_mode program.now.typed site (view_sharing mode.entry) object first) }
     ensures fuel { st.new.fuel ≤ st.old.fuel }
@@ -203,7 +203,7 @@ pub fn fetched(
     mode: Sharing<'_>,
     place: LvaluePlace,
     st: &mut State,
-) -> Ran<i64>
+) -> Goes<i64>
     ensures does { Does (view_state st.old) result (view_state st.new)
         (fetched program.now.typed site (view_sharing mode.entry) (view_place place)) }
     ensures fuel { st.new.fuel ≤ st.old.fuel }
@@ -218,7 +218,7 @@ pub fn fetched(
 }
 
 /// A cell of this type was written: if it is a pointer, what it held before is given up.
-fn replaced_in(kind: ExpressionKind<'_>, cell: CellAt, st: &mut State) -> Ran<()>
+fn replaced_in(kind: ExpressionKind<'_>, cell: CellAt, st: &mut State) -> Goes<()>
     ensures does { Does (view_state st.old) result (view_state st.new) (if is_pointer (view_kind kind.entry)
         then gives_up (Replaced cell ∷ []) else done) }
     ensures fuel { st.new.fuel ≤ st.old.fuel }
@@ -237,7 +237,7 @@ fn stored_in_cell(
     under: CellMode,
     value: i64,
     st: &mut State,
-) -> Ran<()>
+) -> Goes<()>
     ensures does { Does (view_state st.old) result (view_state st.new)
         (stored_in_cell site (view_kind kind.entry) cell under value) }
     ensures fuel { st.new.fuel ≤ st.old.fuel }
@@ -256,7 +256,7 @@ pub fn stored(
     place: LvaluePlace,
     value: i64,
     st: &mut State,
-) -> Ran<()>
+) -> Goes<()>
     ensures does { Does (view_state st.old) result (view_state st.new)
         (stored program.now.typed site (view_kind kind.entry) (view_sharing mode.entry) (view_place place) value) }
     ensures fuel { st.new.fuel ≤ st.old.fuel }
@@ -275,7 +275,7 @@ pub fn stored(
     }
 }
 
-fn taken_of_local(site: Site, kind: TakeKind, token: u32, value: i64, st: &mut State) -> Ran<i64>
+fn taken_of_local(site: Site, kind: TakeKind, token: u32, value: i64, st: &mut State) -> Goes<i64>
     ensures does { Does (view_state st.old) result (view_state st.new) (if is_null value then give value
         else answered site (acts.Take (taken.Local token) kind)) }
     ensures fuel { st.new.fuel ≤ st.old.fuel }
@@ -296,7 +296,7 @@ pub fn taken_from(
     kind: TakeKind,
     place: LvaluePlace,
     st: &mut State,
-) -> Ran<i64>
+) -> Goes<i64>
     ensures does { Does (view_state st.old) result (view_state st.new)
         (taken_from program.now.typed token_site site (view_sharing mode.entry) kind (view_place place)) }
     ensures fuel { st.new.fuel ≤ st.old.fuel }
@@ -326,7 +326,7 @@ pub fn cast_to(
     mode: Sharing<'_>,
     value: i64,
     st: &mut State,
-) -> Ran<i64>
+) -> Goes<i64>
     ensures does { Does (view_state st.old) result (view_state st.new)
         (cast_to program.now.typed site (view_sharing mode.entry) value) }
     ensures fuel { st.new.fuel ≤ st.old.fuel }
@@ -339,7 +339,7 @@ pub fn cast_to(
 }
 
 /// The object ends, and what its pointer cells hold is given up on the way.
-pub fn freed(site: Site, value: i64, st: &mut State) -> Ran<()>
+pub fn freed(site: Site, value: i64, st: &mut State) -> Goes<()>
     ensures does { Does (view_state st.old) result (view_state st.new) (freed site value) }
     ensures fuel { st.new.fuel ≤ st.old.fuel }
 {

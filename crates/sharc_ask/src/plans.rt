@@ -10,11 +10,11 @@ ghost use Rattle.sharc_ask.specs.Plans.{Plans, Fits};
 
 use crate::places::LvaluePlace;
 use crate::plan::{Plan, Value};
-use crate::state::{Ran, RunEnd};
+use crate::state::{Goes, RunEnd};
 use crate::values::Flow;
 
 /// A number came.
-pub fn done_number<'a>(answer: Ran<i64>) -> Ran<Plan<'a>>
+pub fn done_number<'a>(answer: Goes<i64>) -> Goes<Plan<'a>>
     ensures means { (on_call : Calls) (m : Assignment) (before after : Known) (run : Run ℤ)
         → Does before answer after run → Plans on_call m before result after (gives number run) }
     ensures fits { IfOk result (Fits 0) }
@@ -24,7 +24,7 @@ pub fn done_number<'a>(answer: Ran<i64>) -> Ran<Plan<'a>>
 }
 
 /// A place came.
-pub fn done_place<'a>(answer: Ran<LvaluePlace>) -> Ran<Plan<'a>>
+pub fn done_place<'a>(answer: Goes<LvaluePlace>) -> Goes<Plan<'a>>
     ensures means { (on_call : Calls) (m : Assignment) (before after : Known) (run : Run NamedPlace)
         → DoesAs view_place before answer after run → Plans on_call m before result after (gives place run) }
     ensures fits { IfOk result (Fits 0) }
@@ -34,7 +34,7 @@ pub fn done_place<'a>(answer: Ran<LvaluePlace>) -> Ran<Plan<'a>>
 }
 
 /// A test was made.
-pub fn done_test<'a>(answer: Ran<bool>) -> Ran<Plan<'a>>
+pub fn done_test<'a>(answer: Goes<bool>) -> Goes<Plan<'a>>
     ensures means { (on_call : Calls) (m : Assignment) (before after : Known) (run : Run Bool)
         → Does before answer after run → Plans on_call m before result after (gives test run) }
     ensures fits { IfOk result (Fits 0) }
@@ -44,7 +44,7 @@ pub fn done_test<'a>(answer: Ran<bool>) -> Ran<Plan<'a>>
 }
 
 /// A statement was left.
-pub fn done_flow<'a>(answer: Ran<Flow>) -> Ran<Plan<'a>>
+pub fn done_flow<'a>(answer: Goes<Flow>) -> Goes<Plan<'a>>
     ensures means { (on_call : Calls) (m : Assignment) (before after : Known) (run : Run LeftBy)
         → DoesAs view_flow before answer after run → Plans on_call m before result after (gives flow run) }
     ensures fits { IfOk result (Fits 0) }
@@ -54,7 +54,7 @@ pub fn done_flow<'a>(answer: Ran<Flow>) -> Ran<Plan<'a>>
 }
 
 /// A step was done.
-pub fn done_step<'a>(answer: Ran<()>) -> Ran<Plan<'a>>
+pub fn done_step<'a>(answer: Goes<()>) -> Goes<Plan<'a>>
     ensures means { (on_call : Calls) (m : Assignment) (before after : Known) (run : Step)
         → Does before answer after run → Plans on_call m before result after (gives as_nothing run) }
     ensures fits { IfOk result (Fits 0) }
@@ -64,7 +64,7 @@ pub fn done_step<'a>(answer: Ran<()>) -> Ran<Plan<'a>>
 }
 
 /// A step was done, and it goes on.
-pub fn then<'a>(answer: Ran<()>, plan: Plan<'a>) -> Ran<Plan<'a>>
+pub fn then<'a>(answer: Goes<()>, plan: Plan<'a>) -> Goes<Plan<'a>>
     ensures means { (on_call : Calls) (m : Assignment) (before after : Known) (run : Step)
         → Does before answer after run
         → Plans on_call m before result after (step_then run (plan_means on_call m plan.entry)) }
@@ -75,7 +75,7 @@ pub fn then<'a>(answer: Ran<()>, plan: Plan<'a>) -> Ran<Plan<'a>>
 }
 
 /// A test was made, and it goes on by its truth.
-pub fn by_truth<'a>(answer: Ran<bool>, yes: Plan<'a>, no: Plan<'a>) -> Ran<Plan<'a>>
+pub fn by_truth<'a>(answer: Goes<bool>, yes: Plan<'a>, no: Plan<'a>) -> Goes<Plan<'a>>
     ensures means { (on_call : Calls) (m : Assignment) (before after : Known) (run : Run Bool)
         → Does before answer after run → Plans on_call m before result after
         (test_then run (plan_means on_call m yes.entry) (plan_means on_call m no.entry)) }

@@ -24,7 +24,7 @@ use crate::plan::{
     Operation, Plan, Rest, Task, Value, WithNumber, WithPlace, WithValue, number_in, place_in,
 };
 use crate::plans::{by_truth, done_flow, done_number, done_place, done_step, done_test, then};
-use crate::state::{Ran, State};
+use crate::state::{Goes, State};
 use crate::values::{Flow, based, cast_unless_null, held, kind_of, let_go, made, place_fetched};
 use sharc_mode::cell::{cell_of, pointed};
 use sharc_mode::moded::Moded;
@@ -41,7 +41,7 @@ fn by_left<'a>(
     right: &'a Expr,
     x: i64,
     st: &mut State,
-) -> Ran<Plan<'a>>
+) -> Goes<Plan<'a>>
     ensures means { (on_call : Calls) → let m = program.now in let a = view_expr expr.now in
         let b = view_expr right.now in let bits = value_bits operation.width in
         Plans on_call m (view_state st.old) result (view_state st.new) (gives number (ends_above operation.mark
@@ -62,7 +62,7 @@ fn by_pointer<'a>(
     index: &'a Expr,
     x: i64,
     st: &mut State,
-) -> Ran<Plan<'a>>
+) -> Goes<Plan<'a>>
     ensures means { (on_call : Calls) → let m = program.now in
         Plans on_call m (view_state st.old) result (view_state st.new)
         (gives place (behind_pointer m.typed site (view_expr expr.now) x (eval on_call m (view_expr index.now)))) }
@@ -80,7 +80,7 @@ fn with_value<'a>(
     rest: WithValue<'a>,
     x: i64,
     st: &mut State,
-) -> Ran<Plan<'a>>
+) -> Goes<Plan<'a>>
     ensures means { (on_call : Calls) → Plans on_call program.now (view_state st.old) result (view_state st.new)
         (value_means on_call program.now (view_expr expr.now) rest.entry x) }
     ensures fits { IfOk result (Starts (value_weight rest.entry)) }
@@ -129,7 +129,7 @@ fn with_number<'a>(
     rest: WithNumber<'a>,
     x: i64,
     st: &mut State,
-) -> Ran<Plan<'a>>
+) -> Goes<Plan<'a>>
     ensures means { (on_call : Calls) → Plans on_call program.now (view_state st.old) result (view_state st.new)
         (number_means program.now rest.entry x) }
     ensures fits { IfOk result (Fits 0) }
@@ -157,7 +157,7 @@ fn taken(
     place: LvaluePlace,
     mark: usize,
     st: &mut State,
-) -> Ran<i64>
+) -> Goes<i64>
     ensures does { Does (view_state st.old) result (view_state st.new)
         (ends_above mark (taken_from program.now.typed span.first (span_of (view_expr expr.now)).first
         (cell_at program.now (view_expr expr.now)) kind (view_place place))) }
@@ -186,7 +186,7 @@ fn freed<'a>(
     place: LvaluePlace,
     mark: usize,
     st: &mut State,
-) -> Ran<Plan<'a>>
+) -> Goes<Plan<'a>>
     ensures means { (on_call : Calls) → Plans on_call program.now (view_state st.old) result (view_state st.new)
         (place_means on_call program.now (view_expr expr.now) (Frees span mark) (view_place place)) }
     ensures fits { IfOk result (Fits 0) }
@@ -203,7 +203,7 @@ fn cast<'a>(
     place: LvaluePlace,
     mark: usize,
     st: &mut State,
-) -> Ran<Plan<'a>>
+) -> Goes<Plan<'a>>
     ensures means { (on_call : Calls) → Plans on_call program.now (view_state st.old) result (view_state st.new)
         (place_means on_call program.now (view_expr expr.now) (Casts span mark) (view_place place)) }
     ensures fits { IfOk result (Fits 0) }
@@ -219,7 +219,7 @@ fn with_place<'a>(
     rest: WithPlace<'a>,
     place: LvaluePlace,
     st: &mut State,
-) -> Ran<Plan<'a>>
+) -> Goes<Plan<'a>>
     ensures means { (on_call : Calls) → Plans on_call program.now (view_state st.old) result (view_state st.new)
         (place_means on_call program.now (view_expr expr.now) rest.entry (view_place place)) }
     ensures fits { IfOk result (Starts (place_weight rest.entry)) }
@@ -256,7 +256,12 @@ fn with_place<'a>(
 }
 
 /// What goes on with this value.
-pub fn resume<'a>(program: &'a Moded, rest: Rest<'a>, value: Value, st: &mut State) -> Ran<Plan<'a>>
+pub fn resume<'a>(
+    program: &'a Moded,
+    rest: Rest<'a>,
+    value: Value,
+    st: &mut State,
+) -> Goes<Plan<'a>>
     ensures means { (on_call : Calls) → Plans on_call program.now (view_state st.old) result (view_state st.new)
         (rest_means on_call program.now rest.entry (view_value value)) }
     ensures begins { IfOk result (Begins (weight rest.entry) st.old.fuel st.new.fuel) }

@@ -5,7 +5,7 @@ ghost use Rattle.sharc_ask.specs.{declared.state.RunEnd.TheVariants.Memory, Stac
 
 use crate::frames::SuspendedCaller;
 use crate::plan::{Call, Plan, Rest};
-use crate::state::{Ran, RunEnd};
+use crate::state::{Goes, RunEnd};
 use sharc_tree::tree::{Declaration, Expr, FunctionDefinition};
 
 /// A call some of whose arguments have their values. Temporaries after the mark end with it.
@@ -51,7 +51,7 @@ pub struct At<'a> {
 }
 
 /// One more thing is left to do, before all others.
-pub fn push<'a>(frames: u32, later: Later<'a>, stack: &mut Vec<Left<'a>>) -> Ran<()>
+pub fn push<'a>(frames: u32, later: Later<'a>, stack: &mut Vec<Left<'a>>) -> Goes<()>
     ensures pushed { OnOk result (stack_of stack.new
         ≡ record { frames = frames; later = later.entry } ∷ stack_of stack.old) }
     ensures memory { IfErr result (λ e. e ≡ Memory) }
@@ -63,7 +63,7 @@ pub fn push<'a>(frames: u32, later: Later<'a>, stack: &mut Vec<Left<'a>>) -> Ran
 }
 
 /// Likewise of the rest of a plan, of which `Same` needs no place.
-pub fn push_rest<'a>(frames: u32, rest: Rest<'a>, stack: &mut Vec<Left<'a>>) -> Ran<()>
+pub fn push_rest<'a>(frames: u32, rest: Rest<'a>, stack: &mut Vec<Left<'a>>) -> Goes<()>
     ensures pushed { OnOk result (stack_of stack.new ≡ with_rest frames rest.entry (stack_of stack.old)) }
     ensures memory { IfErr result (λ e. e ≡ Memory) }
 {

@@ -28,7 +28,7 @@ pub enum RunEnd {
 }
 
 /// What a step of a run gives, or why the run is over.
-pub type Ran<T> = Result<T, RunEnd>;
+pub type Goes<T> = Result<T, RunEnd>;
 
 /// The variables that exist in a call, and the pointers that its temporaries hold.
 #[derive(Drop)]
@@ -60,7 +60,7 @@ pub fn is_reference(kind: ExpressionKind<'_>) -> bool
 }
 
 /// The run stops unless the test is met.
-pub fn unless(well: bool, trap: Trap, site: Site, st: &State) -> Ran<()>
+pub fn unless(well: bool, trap: Trap, site: Site, st: &State) -> Goes<()>
     ensures { Does (view_state st.now) result (view_state st.now) (unless_stop well trap site) }
 {
     if well {
@@ -71,7 +71,7 @@ pub fn unless(well: bool, trap: Trap, site: Site, st: &State) -> Ran<()>
 }
 
 /// One more statement or expression is entered.
-pub fn enter(st: &mut State) -> Ran<()>
+pub fn enter(st: &mut State) -> Goes<()>
     ensures does { Does (view_state st.old) result (view_state st.new) enters }
     ensures fuel { IfOk result (λ _. st.new.fuel < st.old.fuel) }
 {
@@ -83,7 +83,7 @@ pub fn enter(st: &mut State) -> Ran<()>
 }
 
 /// A temporary holds this reference.
-pub fn hold_reference(value: i64, st: &mut State) -> Ran<()>
+pub fn hold_reference(value: i64, st: &mut State) -> Goes<()>
     ensures does { Does (view_state st.old) result (view_state st.new) (holds_reference value) }
     ensures fuel { st.new.fuel ≤ st.old.fuel }
 {
@@ -94,7 +94,7 @@ pub fn hold_reference(value: i64, st: &mut State) -> Ran<()>
 }
 
 /// A temporary holds a value of this type, if it is a pointer.
-pub fn hold(kind: ExpressionKind<'_>, value: i64, st: &mut State) -> Ran<()>
+pub fn hold(kind: ExpressionKind<'_>, value: i64, st: &mut State) -> Goes<()>
     ensures does { Does (view_state st.old) result (view_state st.new) (holds (view_kind kind.entry) value) }
     ensures fuel { st.new.fuel ≤ st.old.fuel }
 {
@@ -106,7 +106,7 @@ pub fn hold(kind: ExpressionKind<'_>, value: i64, st: &mut State) -> Ran<()>
 }
 
 /// A variable exists from here on.
-pub fn begin(declaration: &Declaration, value: i64, st: &mut State) -> Ran<()>
+pub fn begin(declaration: &Declaration, value: i64, st: &mut State) -> Goes<()>
     ensures does { Does (view_state st.old) result (view_state st.new) (begins_with declaration.now value) }
     ensures fuel { st.new.fuel ≤ st.old.fuel }
 {
@@ -157,7 +157,7 @@ fn place_of(variables: &[Variable], token: u32) -> usize
 }
 
 /// Gives a variable this value.
-pub fn set(token: u32, value: i64, st: &mut State) -> Ran<()>
+pub fn set(token: u32, value: i64, st: &mut State) -> Goes<()>
     ensures does { Does (view_state st.old) result (view_state st.new) (sets token value) }
     ensures fuel { st.new.fuel ≤ st.old.fuel }
 {
@@ -174,7 +174,7 @@ pub fn set(token: u32, value: i64, st: &mut State) -> Ran<()>
 }
 
 /// The reference of the last temporary has gone elsewhere.
-pub fn move_on(st: &mut State) -> Ran<()>
+pub fn move_on(st: &mut State) -> Goes<()>
     ensures does { Does (view_state st.old) result (view_state st.new) (moves_on 1) }
     ensures fuel { st.new.fuel ≤ st.old.fuel }
 {
@@ -184,7 +184,7 @@ pub fn move_on(st: &mut State) -> Ran<()>
 }
 
 /// Likewise, where it is a value of this type.
-pub fn moves(kind: ExpressionKind<'_>, st: &mut State) -> Ran<()>
+pub fn moves(kind: ExpressionKind<'_>, st: &mut State) -> Goes<()>
     ensures does { Does (view_state st.old) result (view_state st.new) (moves (view_kind kind.entry)) }
     ensures fuel { st.new.fuel ≤ st.old.fuel }
 {
@@ -196,7 +196,7 @@ pub fn moves(kind: ExpressionKind<'_>, st: &mut State) -> Ran<()>
 }
 
 /// References are given up.
-pub fn give_up(given: GivenUp, st: &mut State) -> Ran<()>
+pub fn give_up(given: GivenUp, st: &mut State) -> Goes<()>
     ensures does { Does (view_state st.old) result (view_state st.new) (gives_up (given ∷ [])) }
     ensures fuel { st.new.fuel ≤ st.old.fuel }
 {
@@ -207,7 +207,7 @@ pub fn give_up(given: GivenUp, st: &mut State) -> Ran<()>
 }
 
 /// This reference is given up.
-pub fn release(reference: i64, st: &mut State) -> Ran<()>
+pub fn release(reference: i64, st: &mut State) -> Goes<()>
     ensures does { Does (view_state st.old) result (view_state st.new) (gives_up (all_released (reference ∷ []))) }
     ensures fuel { st.new.fuel ≤ st.old.fuel }
 {
@@ -215,7 +215,7 @@ pub fn release(reference: i64, st: &mut State) -> Ran<()>
 }
 
 /// A value of this type is used no more.
-pub fn dropped(kind: ExpressionKind<'_>, value: i64, st: &mut State) -> Ran<()>
+pub fn dropped(kind: ExpressionKind<'_>, value: i64, st: &mut State) -> Goes<()>
     ensures does { Does (view_state st.old) result (view_state st.new) (drops (view_kind kind.entry) value) }
     ensures fuel { st.new.fuel ≤ st.old.fuel }
 {
@@ -263,7 +263,7 @@ fn answer_of(variables: &[Variable], act: Act, told: i64) -> i64
 }
 
 /// Puts those of the cells that are not this one at the end of a list.
-fn keep_others(cells: &[CellAt], cell: CellAt, kept: &mut Vec<CellAt>) -> Ran<()>
+fn keep_others(cells: &[CellAt], cell: CellAt, kept: &mut Vec<CellAt>) -> Goes<()>
     ensures { OnOk result (kept.new.items ≡ kept.old.items ++ filter (λ d. not (same_cell d cell)) cells.now) }
 {
     match cells {
@@ -281,7 +281,7 @@ fn keep_others(cells: &[CellAt], cell: CellAt, kept: &mut Vec<CellAt>) -> Ran<()
 }
 
 /// The mutexes that are held after one more event.
-fn note_held(alloc: Global, act: Act, held: &mut Vec<CellAt>) -> Ran<()>
+fn note_held(alloc: Global, act: Act, held: &mut Vec<CellAt>) -> Goes<()>
     ensures { OnOk result (held.new.items ≡ held_after act held.old.items) }
 {
     match act {
@@ -308,7 +308,7 @@ fn next_answer(answers: &[i64]) -> i64
 }
 
 /// An event, with the next answer of the list.
-pub fn ask_event(site: Site, act: Act, st: &mut State) -> Ran<i64>
+pub fn ask_event(site: Site, act: Act, st: &mut State) -> Goes<i64>
     ensures does { Does (view_state st.old) result (view_state st.new) (answered site act) }
     ensures fuel { st.new.fuel ≤ st.old.fuel }
 {
@@ -342,7 +342,7 @@ pub fn ask_event(site: Site, act: Act, st: &mut State) -> Ran<i64>
 }
 
 /// An event that answers nothing.
-pub fn perform(site: Site, act: Act, st: &mut State) -> Ran<()>
+pub fn perform(site: Site, act: Act, st: &mut State) -> Goes<()>
     ensures does { Does (view_state st.old) result (view_state st.new) (performs site act) }
     ensures fuel { st.new.fuel ≤ st.old.fuel }
 {

@@ -12,7 +12,7 @@ ghost use Rattle.sharc_ask.specs.Plans.{inside, Leads, LeadsFrom, Plans, Fits, S
 
 use crate::plan::{Plan, Rest, Task, Value, WithNumber, WithPlace, WithValue};
 use crate::plans::{done_number, then};
-use crate::state::{Ran, State, begin, enter};
+use crate::state::{Goes, State, begin, enter};
 use crate::values::{Flow, made};
 use sharc_mode::cell::pointed;
 use sharc_mode::moded::Moded;
@@ -29,7 +29,7 @@ fn counted<'a>(
     count: &'a Option<Expr>,
     written: &'a WrittenType,
     st: &mut State,
-) -> Ran<Plan<'a>>
+) -> Goes<Plan<'a>>
     ensures means { (on_call : Calls) (kind : KindMeant) → Plans on_call program.now (view_state st.old) result
         (view_state st.new) (inside (gives number (right_value on_call program.now kind (view_sharing target.entry)
         (malloc span (view_option view_expr count.now) written.now)))) }
@@ -52,7 +52,7 @@ fn begin_malloc<'a>(
     count: &'a Option<Expr>,
     written: &'a WrittenType,
     st: &mut State,
-) -> Ran<Plan<'a>>
+) -> Goes<Plan<'a>>
     ensures means { (on_call : Calls) (kind : KindMeant)
         → Plans on_call program.now (view_state st.old) result (view_state st.new) (gives number (right_value on_call
         program.now kind (view_sharing target.entry) (malloc span (view_option view_expr count.now) written.now))) }
@@ -69,7 +69,7 @@ pub fn begin_right<'a>(
     target: Sharing<'a>,
     right: &'a Right,
     st: &mut State,
-) -> Ran<Plan<'a>>
+) -> Goes<Plan<'a>>
     ensures means { (on_call : Calls)
         → Plans on_call program.now (view_state st.old) result (view_state st.new) (gives number
         (right_value on_call program.now (view_kind kind.entry) (view_sharing target.entry) (view_right right.now))) }
@@ -129,7 +129,7 @@ fn initial_plan<'a>(
 }
 
 /// A local of a block.
-pub fn begin_local<'a>(program: &'a Moded, local: &'a Local, st: &mut State) -> Ran<Plan<'a>>
+pub fn begin_local<'a>(program: &'a Moded, local: &'a Local, st: &mut State) -> Goes<Plan<'a>>
     ensures means { (on_call : Calls) → Plans on_call program.now (view_state st.old) result (view_state st.new)
         (gives as_nothing (declared on_call program.now (view_local local.now))) }
     ensures begins { IfOk result (Begins 5 st.old.fuel st.new.fuel) }
@@ -141,7 +141,7 @@ pub fn begin_local<'a>(program: &'a Moded, local: &'a Local, st: &mut State) -> 
 }
 
 /// What comes first in the head of a `for`.
-pub fn begin_first<'a>(first: &'a ForFirst, st: &mut State) -> Ran<Plan<'a>>
+pub fn begin_first<'a>(first: &'a ForFirst, st: &mut State) -> Goes<Plan<'a>>
     ensures means { (on_call : Calls) (m : Assignment) → Plans on_call m (view_state st.old) result (view_state st.new)
         (gives as_nothing (done_first on_call m (view_first first.now))) }
     ensures begins { IfOk result (Begins 9 st.old.fuel st.new.fuel) }

@@ -7,7 +7,7 @@ ghost use Rattle.sharc_ask.specs.{StepView.{known, view_state, Does}, Held.all_h
 
 use crate::asked::{Asked, Holds, Outcome};
 use crate::frames::held_by;
-use crate::state::{Frame, Ran, RunEnd, State, perform, unless};
+use crate::state::{Frame, Goes, RunEnd, State, perform, unless};
 use crate::walk::run_function;
 use sharc_mode::moded::Moded;
 use sharc_tree::event::Act;
@@ -16,7 +16,7 @@ use sharc_tree::token::Site;
 use sharc_tree::trap::Trap;
 use std::alloc::{AllocError, Global};
 
-fn leaves(name: Site, st: &mut State) -> Ran<()>
+fn leaves(name: Site, st: &mut State) -> Goes<()>
     ensures { Does (view_state st.old) result (view_state st.new) (leaves name) }
 {
     perform(name, Act::Return, st)?;
@@ -24,7 +24,7 @@ fn leaves(name: Site, st: &mut State) -> Ran<()>
 }
 
 /// A thread returns where it holds no mutex, and is then gone.
-fn goes_away(name: Site, site: Site, st: &mut State) -> Ran<()>
+fn goes_away(name: Site, site: Site, st: &mut State) -> Goes<()>
     ensures { Does (view_state st.old) result (view_state st.new) (goes_away name site) }
 {
     let free = st.held.is_empty();
@@ -32,7 +32,7 @@ fn goes_away(name: Site, site: Site, st: &mut State) -> Ran<()>
     leaves(name, st)
 }
 
-fn run_thread(program: &Moded, number: u32, argument: i64, st: &mut State) -> Ran<()>
+fn run_thread(program: &Moded, number: u32, argument: i64, st: &mut State) -> Goes<()>
     ensures { Does (view_state st.old) result (view_state st.new)
         (run_thread program.now (function_at program.now.typed number) argument) }
 {

@@ -15,7 +15,7 @@ ghost use Rattle.sharc_ask.specs.View.{place_fetched};
 use crate::arithmetic::{is_positive, is_zero};
 use crate::cells::{element_cells, instance_mode};
 use crate::places::{LvaluePlace, base, cast_to, element, fetched, freed};
-use crate::state::{Ran, RunEnd, State, ask_event, dropped, hold, unless, value_in};
+use crate::state::{Goes, RunEnd, State, ask_event, dropped, hold, unless, value_in};
 use sharc_ctype::typed;
 use sharc_mode::cell::{cell_of, pointed};
 use sharc_mode::moded::Moded;
@@ -84,7 +84,7 @@ pub fn rest_of(parameters: &[Declaration]) -> &[Declaration]
 }
 
 // A value that a temporary holds, if it is a pointer.
-pub fn held(program: &Moded, expr: &Expr, value: i64, st: &mut State) -> Ran<()>
+pub fn held(program: &Moded, expr: &Expr, value: i64, st: &mut State) -> Goes<()>
     ensures does { Does (view_state st.old) result (view_state st.new)
         (holds (kind_at program.now.typed (view_expr expr.now)) value) }
     ensures fuel { st.new.fuel ≤ st.old.fuel }
@@ -92,7 +92,7 @@ pub fn held(program: &Moded, expr: &Expr, value: i64, st: &mut State) -> Ran<()>
     hold(kind_of(program, expr), value, st)
 }
 
-pub fn let_go(program: &Moded, expr: &Expr, value: i64, st: &mut State) -> Ran<()>
+pub fn let_go(program: &Moded, expr: &Expr, value: i64, st: &mut State) -> Goes<()>
     ensures does { Does (view_state st.old) result (view_state st.new)
         (drops (kind_at program.now.typed (view_expr expr.now)) value) }
     ensures fuel { st.new.fuel ≤ st.old.fuel }
@@ -100,7 +100,7 @@ pub fn let_go(program: &Moded, expr: &Expr, value: i64, st: &mut State) -> Ran<(
     dropped(kind_of(program, expr), value, st)
 }
 
-pub fn based(program: &Moded, site: Site, expr: &Expr, pointer: i64, st: &mut State) -> Ran<()>
+pub fn based(program: &Moded, site: Site, expr: &Expr, pointer: i64, st: &mut State) -> Goes<()>
     ensures does { Does (view_state st.old) result (view_state st.new)
         (based site (kind_at program.now.typed (view_expr expr.now)) pointer) }
     ensures fuel { st.new.fuel ≤ st.old.fuel }
@@ -108,7 +108,7 @@ pub fn based(program: &Moded, site: Site, expr: &Expr, pointer: i64, st: &mut St
     base(site, kind_of(program, expr), pointer, st)
 }
 
-pub fn resulting(site: Site, value: Result<i64, Trap>, st: &State) -> Ran<i64>
+pub fn resulting(site: Site, value: Result<i64, Trap>, st: &State) -> Goes<i64>
     ensures { Does (view_state st.now) result (view_state st.now) (resulting site value) }
 {
     match value {
@@ -118,7 +118,7 @@ pub fn resulting(site: Site, value: Result<i64, Trap>, st: &State) -> Ran<i64>
 }
 
 // The value in the place that an expression names.
-pub fn place_fetched(program: &Moded, expr: &Expr, place: LvaluePlace, st: &mut State) -> Ran<i64>
+pub fn place_fetched(program: &Moded, expr: &Expr, place: LvaluePlace, st: &mut State) -> Goes<i64>
     ensures does { Does (view_state st.old) result (view_state st.new)
         (place_fetched program.now (view_expr expr.now) (view_place place)) }
     ensures fuel { st.new.fuel ≤ st.old.fuel }
@@ -132,7 +132,13 @@ pub fn place_fetched(program: &Moded, expr: &Expr, place: LvaluePlace, st: &mut 
     )
 }
 
-pub fn named_value(program: &Moded, expr: &Expr, site: Site, token: u32, st: &mut State) -> Ran<i64>
+pub fn named_value(
+    program: &Moded,
+    expr: &Expr,
+    site: Site,
+    token: u32,
+    st: &mut State,
+) -> Goes<i64>
     ensures does { Does (view_state st.old) result (view_state st.new) (named_value program.now.typed
         (cell_at program.now (view_expr expr.now)) site (named_at program.now.typed token)) }
     ensures fuel { st.new.fuel ≤ st.old.fuel }
@@ -183,7 +189,7 @@ pub fn value_act(word: ValueCall, value: i64) -> Act
     }
 }
 
-pub fn freed_unless_null(site: Site, value: i64, st: &mut State) -> Ran<()>
+pub fn freed_unless_null(site: Site, value: i64, st: &mut State) -> Goes<()>
     ensures does { Does (view_state st.old) result (view_state st.new) (if is_null value then done
         else freed site value) }
     ensures fuel { st.new.fuel ≤ st.old.fuel }
@@ -201,7 +207,7 @@ pub fn cast_unless_null(
     expr: &Expr,
     value: i64,
     st: &mut State,
-) -> Ran<i64>
+) -> Goes<i64>
     ensures does { Does (view_state st.old) result (view_state st.new) (if is_null value then give value
         else cast_to program.now.typed (span_of (view_expr expr.now)).first
         (pointed program.now (Some (cast_row program.now.typed span))) value) }
@@ -237,7 +243,7 @@ pub fn made(
     elements: i64,
     written: &WrittenType,
     st: &mut State,
-) -> Ran<i64>
+) -> Goes<i64>
     ensures does { Does (view_state st.old) result (view_state st.new)
         (made program.now.typed site (view_sharing target.entry) elements written.now) }
     ensures fuel { st.new.fuel ≤ st.old.fuel }

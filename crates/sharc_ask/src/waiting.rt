@@ -7,7 +7,7 @@ ghost use Rattle.sharc_ask.specs.{StepView.{view_state, Does}, Waking.{stops_unl
 
 use crate::arithmetic::is_zero;
 use crate::cells::number_of;
-use crate::state::{Ran, State, hold_reference, is_among, move_on, perform, unless};
+use crate::state::{Goes, State, hold_reference, is_among, move_on, perform, unless};
 use sharc_tree::event::{Act, CellAt, Object};
 use sharc_tree::token::Site;
 use sharc_tree::trap::Trap;
@@ -23,7 +23,7 @@ fn first_cell(pointer: i64) -> CellAt
 }
 
 /// The run stops unless the thread holds the mutex.
-pub fn unless_held(cell: CellAt, site: Site, st: &State) -> Ran<()>
+pub fn unless_held(cell: CellAt, site: Site, st: &State) -> Goes<()>
     ensures { Does (view_state st.now) result (view_state st.now) (stops_unless_held cell site) }
 {
     unless(
@@ -35,7 +35,7 @@ pub fn unless_held(cell: CellAt, site: Site, st: &State) -> Ran<()>
 }
 
 // From the Unlock on.
-fn awakes(site: Site, condition: i64, mutex: i64, st: &mut State) -> Ran<()>
+fn awakes(site: Site, condition: i64, mutex: i64, st: &mut State) -> Goes<()>
     ensures does { Does (view_state st.old) result (view_state st.new) (awakes site condition mutex) }
     ensures fuel { st.new.fuel ≤ st.old.fuel }
 {
@@ -46,7 +46,7 @@ fn awakes(site: Site, condition: i64, mutex: i64, st: &mut State) -> Ran<()>
 }
 
 // From the Enter on.
-fn waits(site: Site, condition: i64, mutex: i64, st: &mut State) -> Ran<()>
+fn waits(site: Site, condition: i64, mutex: i64, st: &mut State) -> Goes<()>
     ensures does { Does (view_state st.old) result (view_state st.new) (waits site condition mutex) }
     ensures fuel { st.new.fuel ≤ st.old.fuel }
 {
@@ -56,7 +56,7 @@ fn waits(site: Site, condition: i64, mutex: i64, st: &mut State) -> Ran<()>
 }
 
 /// `wait(c, m)`
-pub fn wait_call(site: Site, condition: i64, mutex: i64, st: &mut State) -> Ran<()>
+pub fn wait_call(site: Site, condition: i64, mutex: i64, st: &mut State) -> Goes<()>
     ensures does { Does (view_state st.old) result (view_state st.new) (wait_call site condition mutex) }
     ensures fuel { st.new.fuel ≤ st.old.fuel }
 {
@@ -66,7 +66,7 @@ pub fn wait_call(site: Site, condition: i64, mutex: i64, st: &mut State) -> Ran<
     waits(site, condition, mutex, st)
 }
 
-fn signal_call(site: Site, condition: i64, st: &mut State) -> Ran<()>
+fn signal_call(site: Site, condition: i64, st: &mut State) -> Goes<()>
     ensures does { Does (view_state st.old) result (view_state st.new) (signal_call site condition) }
     ensures fuel { st.new.fuel ≤ st.old.fuel }
 {
@@ -74,7 +74,7 @@ fn signal_call(site: Site, condition: i64, st: &mut State) -> Ran<()>
     perform(site, Act::Signal(first_cell(condition)), st)
 }
 
-fn broadcast_call(site: Site, condition: i64, st: &mut State) -> Ran<()>
+fn broadcast_call(site: Site, condition: i64, st: &mut State) -> Goes<()>
     ensures does { Does (view_state st.old) result (view_state st.new) (broadcast_call site condition) }
     ensures fuel { st.new.fuel ≤ st.old.fuel }
 {
@@ -90,7 +90,7 @@ fn value_at(values: &[i64], at: usize) -> i64
 }
 
 /// A known call of this name.
-pub fn condition_call(site: Site, name: &[u8], values: &[i64], st: &mut State) -> Ran<()>
+pub fn condition_call(site: Site, name: &[u8], values: &[i64], st: &mut State) -> Goes<()>
     ensures does { Does (view_state st.old) result (view_state st.new) (condition_call site name.now values.now) }
     ensures fuel { st.new.fuel ≤ st.old.fuel }
 {

@@ -16,7 +16,7 @@ use crate::parts::left_behind;
 use crate::plan::{Plan, Rest, Task, Value, WithValue, flow_in, number_in};
 use crate::rests::resume;
 use crate::stack::{At, Later, Left, push_rest};
-use crate::state::{Ran, RunEnd, State};
+use crate::state::{Goes, RunEnd, State};
 use crate::statements::{
     begin_first, begin_local, begin_right, return_plan, simple_plan, test_plan,
 };
@@ -24,7 +24,7 @@ use sharc_mode::moded::Moded;
 use sharc_tree::token::Site;
 use sharc_tree::tree::FunctionDefinition;
 
-fn begin<'a>(program: &'a Moded, task: Task<'a>, st: &mut State) -> Ran<Plan<'a>>
+fn begin<'a>(program: &'a Moded, task: Task<'a>, st: &mut State) -> Goes<Plan<'a>>
     ensures means { (on_call : Calls) → Plans on_call program.now (view_state st.old) result (view_state st.new)
         (task_means on_call program.now task.entry) }
     ensures begins { IfOk result (Begins (rank task.entry) st.old.fuel st.new.fuel) }
@@ -60,7 +60,7 @@ fn go<'a>(
     rest: Rest<'a>,
     stack: &mut Vec<Left<'a>>,
     st: &mut State,
-) -> Ran<At<'a>>
+) -> Goes<At<'a>>
     ensures moves { Moves program.now (view_state st.old) (stack_of stack.old) result (view_state st.new)
         (stack_of stack.new) (goes_on (calls program.now frames) program.now
         (task_means (calls program.now frames) program.now task.entry) rest.entry) }
@@ -79,7 +79,7 @@ fn go_on<'a>(
     value: Value,
     stack: &mut Vec<Left<'a>>,
     st: &mut State,
-) -> Ran<At<'a>>
+) -> Goes<At<'a>>
     ensures moves { GoesOnWith program.now (view_state st.old) left.entry value (stack_of stack.old) result
         (view_state st.new) (stack_of stack.new) }
     ensures ends { IfOk result (λ at. 64 * st.new.fuel + size at.plan + load (stack_of stack.new)
@@ -103,7 +103,7 @@ enum Stepped<'a> {
     Goes(At<'a>),
 }
 
-fn further<'a>(answer: Ran<At<'a>>) -> Ran<Stepped<'a>>
+fn further<'a>(answer: Goes<At<'a>>) -> Goes<Stepped<'a>>
     ensures steps { (m : Assignment) (before after : Known) (stack stack1 : List Kept) (run : Run Meant)
         → Moves m before stack answer.entry after stack1 run → Steps m before stack result after stack1 run }
     ensures ends { (before after : ℕ) → IfOk answer.entry (λ at. after + size at.plan < before)
@@ -118,7 +118,7 @@ fn step<'a>(
     at: At<'a>,
     stack: &mut Vec<Left<'a>>,
     st: &mut State,
-) -> Ran<Stepped<'a>>
+) -> Goes<Stepped<'a>>
     ensures steps { Steps program.now (view_state st.old) (stack_of stack.old) result (view_state st.new)
         (stack_of stack.new) (at_means program.now at.entry) }
     ensures ends { IfOk result (λ next. GoesDown next (64 * st.old.fuel + size at.entry.plan
@@ -134,7 +134,7 @@ fn step<'a>(
     }
 }
 
-fn walk<'a>(program: &'a Moded, begun: At<'a>, left: Vec<Left<'a>>, st: &mut State) -> Ran<Value>
+fn walk<'a>(program: &'a Moded, begun: At<'a>, left: Vec<Left<'a>>, st: &mut State) -> Goes<Value>
     ensures { Comes program.now begun.entry (stack_of left.entry) (view_state st.old) result (view_state st.new) }
 {
     let mut at = begun;
@@ -154,7 +154,7 @@ pub fn run_function<'a>(
     function: &'a FunctionDefinition,
     values: &[i64],
     st: &mut State,
-) -> Ran<(Site, i64)>
+) -> Goes<(Site, i64)>
     ensures { Does (view_state st.old) result (view_state st.new)
         (run_function (calls program.now frames) program.now (view_function function.now) values.now) }
 {
