@@ -79,7 +79,7 @@ module _ (cell_laws : CellsAreThere) (pointers : PointersAreThere) (rights : Acc
       unwritten : is_cell c (changed_said event) ≡ false
       unwritten = by i refl
         where
-          rests : (j : Instr) → i ≡ j → Rattle.sharc_history_laws.proofs.Single.single j ≡ true → OnHold ((place_after code s earlier).threads one.thread).own.stage
+          rests : (j : Instr) → i ≡ j → Rattle.sharc_invariant.proofs.Own.is_single j ≡ true → OnHold ((place_after code s earlier).threads one.thread).own.stage
           rests j is single = hold cell_laws pointers rights laws keeps x code s ls wt fits few one earlier h may j is single
 
           by : (j : Instr) → i ≡ j → is_cell c (changed_said event) ≡ false
