@@ -1,5 +1,5 @@
 -- What the stage of typed code says of the word that a turn asks for.
-use Rattle.sharc_history_laws.proofs.Imports.{◌≡◌, ℕ, ◌<◌, List, Some, ap, subst, slice_index, THREADS, NewArguments, Code, Register, Instr, Shape, Stage, Makes, Names, Hands, Begins, state_word, function_word, argument_word, Machine, act, argument, World, Heap, StageStands, Reserves, OnSpawn, drawn_of, BuildsIn, TurnAim, TurnsAim, from_spawn}
+use Rattle.sharc_history_laws.proofs.Imports.{◌≡◌, ℕ, ◌<◌, List, Some, ap, subst, slice_index, THREADS, NewArguments, Code, Instr, Shape, Stage, Makes, Names, Hands, Begins, state_word, function_word, argument_word, Machine, act, argument, World, Heap, StageStands, Reserves, drawn_of, BuildsIn, TurnAim, TurnsAim, from_spawn}
 
 -- the thread that a Spawn is about to start is one of the threads, and was not started
 abbrev pub Reserved : List ℕ → ℕ → Type 0

@@ -1,5 +1,5 @@
 -- What an effect on the world leaves of a passed check, or of an object that a thread has alone or that is gone.
-use Rattle.sharc_history_laws.proofs.Imports.{◌≡◌, ℕ, suc, ◌≢◌, ◌⊎◌, inl, inr, Bool, true, false, ◌&&◌, if◌then◌else◌, refl, sym, ap, ◌∙◌, subst, ⊎_elim, cases_eq, nat_eq, put, GranuleState, Passed, cleared, withdrawn, ObjectType, TypeRules, Size, RegisterOf, Slot, In, TypedReference, ObjectState, Shut, IsSole as Sole, World, WorldInvariant, WinOk, in_ref, put2, none, retype, give, make, set_gran, Effect, Silent, Silently, Gives, Frees, Locks, Unlocks, Returns, Closing, Without, ne_eq, eq_refl, put_same, put_other}
+use Rattle.sharc_history_laws.proofs.Imports.{◌≡◌, ℕ, suc, ◌≢◌, ◌⊎◌, inl, inr, Bool, true, false, ◌&&◌, if◌then◌else◌, refl, sym, ap, ◌∙◌, subst, ⊎_elim, cases_eq, nat_eq, put, GranuleState, Passed, cleared, withdrawn, ObjectType, TypeRules, Size, RegisterOf, Slot, In, TypedReference, ObjectState, Shut, IsSole as Sole, World, WorldInvariant, WinOk, in_ref, put2, none, retype, give, make, set_gran, Effect, Silent, Silently, Gives, Frees, Locks, Unlocks, Returns, Closing, Without, ne_eq, put_same, put_other}
 use Rattle.sharc_invariant.specs.{World.{place, freed}, Effect.{Accesses, Clears, Makes, Withdraws}}
 
 -- thread u has passed a check of granule j of object n, or the object is had alone, or gone

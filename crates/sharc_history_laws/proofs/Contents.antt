@@ -1,5 +1,5 @@
 -- What cells hold by the events of a run, and as words.
-use Rattle.sharc_history_laws.proofs.{Imports.{◌≡◌, ℕ, ℤ, pos, negsuc, suc, ◌+◌, ◌-◌, ◌*◌, ◌^◌, ◌<◌, ◌⊎◌, Bool, true, false, cond, ◌∷◌, reverse, Some, sym, ap, ◌∙◌, subst, arith, ltb-true, nat_tests, slice_index, find, nat_lt, CellAt, SourceEvent, Resolution, Code, Width, Char, Int, Long, Shape, word_of, int_of, holds, value_bits, Machine, Global, reference, Elements, changes, value_left, value_by, value_after, initial_value, Targets, ObjectType, Content, Pointer, field_in, Labels, Number, Exactly, Within, Narrower, LessNumber, IsWellTyped, World, NumberStands, back_again, wider}, Emptying.IsEmptied, Lists.{Newest, latest_is}, Locked.{Names, names_one}, OneMode.place_of, Shared.number_of, Sparing.is_value}
+use Rattle.sharc_history_laws.proofs.{Imports.{◌≡◌, ℕ, ℤ, ◌+◌, ◌*◌, ◌<◌, ◌⊎◌, true, false, cond, ◌∷◌, reverse, Some, sym, ap, subst, arith, slice_index, find, CellAt, SourceEvent, Resolution, Code, Width, Shape, int_of, holds, Machine, Global, reference, Elements, changes, value_left, value_by, value_after, initial_value, Targets, ObjectType, Content, Pointer, field_in, Labels, Number, Exactly, Within, LessNumber, IsWellTyped, World, NumberStands, wider}, Emptying.IsEmptied, Lists.{Newest, latest_is}, Locked.{Names, names_one}, OneMode.place_of, Shared.number_of, Sparing.is_value}
 use Rattle.sharc_invariant.specs.Words.{cell_at}
 
 -- ---- values by the events, the newest event first

@@ -1,5 +1,5 @@
 -- A check of an access is directly before it, so where it passed its thread makes the access next.
-use Rattle.sharc_history_laws.proofs.{Imports.{◌≡◌, ℕ, ◌+◌, Bool, true, false, List, [], ◌∷◌, ◌++◌, Some, is_some, if◌then◌else◌, refl, sym, ap, ◌∙◌, subst, ⊎_elim, arith, cases_eq, nat_tests, ◌==◌, nat_eq, SourceEvent, CellAt, Act, Taken, Kind, Read, Write, note_of, site_at, epoch_of, conflicts_in, noted, Code, PlaceMode, Cell, Instr, Shape, Stage, Clears, FreeClears, WithdrawsFrom, Stop, Conflict, int_of, granule_at, granule_of, Machine, Own, instr_at, act, place, ref, int, row_of, stopped, with_own, with_note, wrote, checked, turn, after, may_go, Turn, Global, paired, state_now, result_of, turns_of, cell_at, mode_of, place_at, said, reference, kind_of, one_thread, place_after, Erase, Access, access_by, Touch, Untouched, CheckOf, WithdrawOf, cleared_by, freed_by, withdrawn_by, touch_of, site_of_check, IsCheck, IsFollowed, ChecksAreFollowed, access_to, access_of, TellsAccess, Follows, IsNext, IsMade, IsOfAccess, yes, TurnState, ne_eq, put_same, put_other, Parts, parts, no_clear, no_free, no_exit}, TurnAt.turn_at}
+use Rattle.sharc_history_laws.proofs.{Imports.{◌≡◌, ℕ, ◌+◌, Bool, true, false, List, [], ◌∷◌, ◌++◌, Some, is_some, if◌then◌else◌, refl, sym, ap, ◌∙◌, subst, ⊎_elim, cases_eq, nat_eq, SourceEvent, CellAt, Act, Taken, Kind, Read, Write, note_of, site_at, epoch_of, conflicts_in, noted, Code, PlaceMode, Cell, Instr, Shape, Stop, Conflict, int_of, granule_at, granule_of, Machine, Own, instr_at, act, place, ref, int, stopped, with_own, with_note, wrote, checked, turn, after, may_go, Turn, paired, state_now, result_of, turns_of, cell_at, mode_of, place_at, said, reference, kind_of, one_thread, place_after, Erase, Access, access_by, CheckOf, touch_of, site_of_check, IsCheck, IsFollowed, ChecksAreFollowed, access_to, access_of, TellsAccess, Follows, IsNext, IsMade, IsOfAccess, yes, TurnState, ne_eq, put_same, put_other, Parts, parts, no_clear, no_free, no_exit}, TurnAt.turn_at}
 use Rattle.sharc_history_laws.specs.Followed.{Accesses}
 
 -- the turn of this instruction, after which the machine is that one, is a check

@@ -1,5 +1,5 @@
 -- The mode of an access that a lock check is before names the mutex that the check looks for.
-use Rattle.sharc_history_laws.proofs.{Imports.{◌≡◌, ℕ, pos, zero, suc, ◌+◌, ◌-◌, ◌*◌, ◌<◌, ◌≤◌, ◌≢◌, Some, refl, sym, ap, ◌∙◌, subst, arith, slice_index_or, CellAt, CellMode, Code, PlaceMode, Cell, Shape, word_of, Fits, Machine, ref, int, IsInGlobal, Global, cell_at, global_cell, made_cell, mode_of, no_global, lock_through, IsThere, Targets, Lock, FieldLock, StaticType, ObjectType, cells_of, GlobalLock, Through, Self, OfType, OfGlobals, OfElement, Under, Refers, Element, OfElementCell, OfGlobal, Number, Anything, Label, Labels, LessNumber, SameReference, Itself, IsCopy, HasCopy, Copies, Chained, IsWellTyped, IsMutexOf, IsMode, IsTypeMode, IsLockMode, IsLockCell, IsTypeLock, IsSibling, HasBefore, no_lock, State, ElementStands, OnHold, types_at, IsOn, Within, Char, Int, Long, place, object, less_number_refl}, TurnAt.thread_at, Stands.rn, Locked.{Names, some_ref, some_eq, names_one, names_cell, element_one, same_refs, number_of_global, number_of_element, same_type}}
+use Rattle.sharc_history_laws.proofs.{Imports.{◌≡◌, ℕ, pos, zero, suc, ◌+◌, ◌-◌, ◌*◌, ◌<◌, ◌≤◌, ◌≢◌, Some, refl, sym, ap, ◌∙◌, subst, arith, slice_index_or, CellAt, CellMode, Code, PlaceMode, Cell, Shape, word_of, Fits, Machine, ref, int, IsInGlobal, Global, cell_at, global_cell, made_cell, mode_of, no_global, lock_through, IsThere, Targets, Lock, FieldLock, StaticType, ObjectType, cells_of, GlobalLock, Through, Self, OfType, OfGlobals, OfElement, Under, Refers, Element, OfElementCell, OfGlobal, Number, Anything, Label, Labels, LessNumber, SameReference, Itself, IsCopy, HasCopy, Copies, Chained, IsWellTyped, IsMutexOf, IsMode, IsTypeMode, IsLockMode, IsLockCell, IsTypeLock, IsSibling, HasBefore, no_lock, State, ElementStands, OnHold, types_at, IsOn, place, object, less_number_refl}, TurnAt.thread_at, Stands.rn, Locked.{Names, some_ref, some_eq, names_one, names_cell, element_one, same_refs, number_of_global, number_of_element, same_type}}
 
 pub refers_eq : (a b : StaticType) → Refers a ≡ Refers b → a ≡ b
 refers_eq a b e = cc

@@ -1,5 +1,5 @@
 -- A sum of which one value grows.
-use Rattle.sharc_history_laws.proofs.Imports.{◌≡◌, ℕ, zero, suc, ◌+◌, ◌*◌, ◌<◌, ◌≤◌, ap, ◌∙◌, ⊎_elim, arith, cases_eq, put, put_same, put_other, sum_to, sum_grows}
+use Rattle.sharc_history_laws.proofs.Imports.{◌≡◌, ℕ, zero, suc, ◌+◌, ◌<◌, ◌≤◌, ap, ◌∙◌, ⊎_elim, arith, cases_eq, put, put_same, put_other, sum_to, sum_grows}
 
 pub sum_more : (n : ℕ) (f : ℕ → ℕ) (i more : ℕ) → i < n → sum_to n f + more ≤ sum_to n (put f i (f i + more))
 sum_more zero f i more lt = absurd (omega arith)

@@ -1,6 +1,5 @@
 -- What a turn does to the shadow word of each granule.
-use Rattle.sharc_history_laws.proofs.{Imports.{◌≡◌, ℕ, zero, suc, ◌+◌, ◌*◌, ◌/◌, ◌%◌, ◌^◌, ◌<◌, ◌≤◌, ◌≢◌, Bool, true, false, length, List, [], ◌∷◌, Option, Some, None, if◌then◌else◌, min, refl, sym, ap, ◌∙◌, subst, ⊎_elim, arith, eqb-true, cases_eq, cases_lt, nat_tests, get_or-set_other, slice_index, nat_lt, bit_or, ◌==◌, Contains, THREADS, WordEvent, WordOp, WordStep, word_after, words_after_step, Kind, Read, Write, GranuleNotes, ListsNoted, is_noted, bits_of, cleared_of, withdrawn_of, ShadowLaws, epoch_of, is_written, stands, AddsAccess, WithdrawsWord, Code, Instr, Shape, Stage, Looks, Clears, FreeClears, WithdrawsFrom, Fits, granules, first_cell, first_shadow, granule_at, granule_of, shadow_word, Machine, StepTurn, Local, Asks, act, instr_at, step_of, ref, place, word, new, clear, free, layout_at, data_granules, data_granule, exit, row_of, without_own, withdrew, largest, wrote, turn, asked_by, may_go, Turn, Global, MayTurn, Answered, words_now, result_of, one_thread, bounds, Touch, Untouched, CheckOf, ClearOf, WithdrawOf, cleared_by, freed_by, withdrawn_by, touch_of, sum_to, Labels, touch_at, State, StageStands, OnHold, IsWellTyped, Targets, cells_of, World, set_here as set_at, same_or, inl, inr, drawn_of, Names, Hands, Begins, Aim, TurnAim, TurnsAim, changes_shadow, yes, row_low, at_low, in_cells, sum_bound}, TurnAt.{turn_at, turn_stands}, Consists.found_is, Stands.{sole_ref, live_ref, target_ref}, Tables.step_leaves, Aims.{drawn_is, typed_aim}}
-use Rattle.sharc_heap.specs.Accesses.{Accesses}
+use Rattle.sharc_history_laws.proofs.{Imports.{◌≡◌, ℕ, suc, ◌+◌, ◌*◌, ◌%◌, ◌^◌, ◌<◌, ◌≤◌, ◌≢◌, Bool, true, false, Option, Some, None, if◌then◌else◌, refl, sym, ap, ◌∙◌, subst, ⊎_elim, arith, eqb-true, cases_eq, nat_tests, get_or-set_other, slice_index, bit_or, ◌==◌, THREADS, WordEvent, WordOp, WordStep, word_after, words_after_step, Kind, Read, Write, bits_of, cleared_of, withdrawn_of, ShadowLaws, epoch_of, is_written, stands, AddsAccess, WithdrawsWord, Code, Instr, Shape, Stage, Clears, FreeClears, WithdrawsFrom, Fits, granules, first_cell, first_shadow, granule_at, granule_of, shadow_word, Machine, StepTurn, Local, Asks, act, instr_at, step_of, ref, place, new, clear, free, layout_at, data_granules, data_granule, exit, row_of, without_own, withdrew, wrote, turn, asked_by, may_go, Turn, Global, MayTurn, Answered, words_now, result_of, one_thread, bounds, Touch, Untouched, CheckOf, ClearOf, WithdrawOf, cleared_by, freed_by, withdrawn_by, touch_of, sum_to, Labels, touch_at, State, StageStands, OnHold, IsWellTyped, Targets, cells_of, World, set_here as set_at, inl, inr, drawn_of, Names, Hands, Begins, Aim, TurnAim, TurnsAim, changes_shadow, yes, row_low, at_low, in_cells, sum_bound}, TurnAt.{turn_at, turn_stands}, Consists.found_is, Stands.{sole_ref, live_ref, target_ref}, Tables.step_leaves, Aims.{drawn_is, typed_aim}}
 use Rattle.sharc_code.specs.Runs as runs
 
 -- ---- words by what a turn is to them

@@ -1,5 +1,5 @@
 -- No access set of a run of typed code holds accesses of two threads of which one writes.
-use Rattle.sharc_history_laws.proofs.{Imports.{◌≡◌, ℕ, ◌+◌, ◌-◌, ◌*◌, ◌/◌, ◌≤◌, ◌≢◌, ◌⊎◌, inl, inr, Bool, true, false, ◌||◌, ◌&&◌, List, [], ◌∷◌, Option, Some, None, refl, sym, ap, ◌∙◌, subst, ⊎_elim, arith, cases_eq, nat_tests, ◌==◌, slice_index, slice_index_or, Act, SourceEvent, Object, CellMode, Code, Cell, Instr, Shape, Stage, Rests, Makes, Uncounts, Links, Withdraws, WithdrawsFrom, Leaves, RunLaws, Fits, Machine, instr_at, ref, place, act, opening_words, is_exit, turn, after, may_go, Turn, Global, IsRun, MayTurn, after_turn, put, state_now, result_of, opening_of, one_thread, bounds, place_after, said, cell_at, place_at, in_exit, no_global, said_now, table_of, Access, granule_in as granule_of, makes, gives, begins, is_of, access_by, until_return, ends, Passed, Targets, Field, FieldMode, Gate, Holds, Loaded, HoldsLoaded, Sole, Labels, IsWellTyped, IsNotSole, RegisterOf, ObjectState, Shut, IsSole, World, WinOk, in_ref, lang_of, has_returned, is_withdrawing, is_ended, Closing, Without, changes_objects, makes_object, frees_object, objects_behind, State, Runs, IsSmall, StageStands, GateStands, StopStands, OnHold, OnExit, object_of_cell, number_in, label_now, size_of_run, IsOn, MachineInvariant, IsAlone, WindowStands, label_of, Keeps, CodeBegins, CellsAreThere, PointersAreThere, AccessesAreAllowed, StateStands, yes, is_access, or_right, not_false, put_same, put_other}, TurnAt.{RunOf, turn_at, told_at, turn_stands}, Single.rests_hold, Stands.{register_is, gate, reads_ref}, Finds.is_there, Tables.{header_of, was_live}, Consists.{Consists, consists_then, objects_then, effect_then, given}, Acts.{access_said, thread_said, given_at, freed_in, freed_at, About, no_access, access_at, IsAccess as TellsAccess, access_of}, Lists.Newest, Modes.dynamic_field, Rules.{over_runs, pushed, newest, number_is, about_now, hold_access, cell_is, can_mode, freed_gone, number_yes, access_single}, Sets.{IsHere, Goes, InSet, NoConflict, Clean}, Carried.{Stands, carried}, Outcomes.{unended, withdraws_still, going_on}, Threaded.or_left}
+use Rattle.sharc_history_laws.proofs.{Imports.{◌≡◌, ℕ, ◌+◌, ◌-◌, ◌*◌, ◌/◌, ◌≤◌, ◌≢◌, ◌⊎◌, inl, inr, Bool, true, false, ◌||◌, ◌&&◌, List, ◌∷◌, Option, Some, None, refl, sym, ap, ◌∙◌, subst, ⊎_elim, arith, cases_eq, nat_tests, ◌==◌, slice_index, slice_index_or, Act, SourceEvent, Object, CellMode, Code, Cell, Instr, Shape, Stage, Rests, Makes, Uncounts, Links, Withdraws, WithdrawsFrom, Leaves, RunLaws, Fits, Machine, instr_at, ref, place, act, is_exit, turn, after, may_go, Turn, Global, MayTurn, after_turn, put, state_now, result_of, one_thread, bounds, place_after, said, cell_at, place_at, in_exit, no_global, said_now, table_of, Access, granule_in as granule_of, makes, gives, begins, is_of, access_by, until_return, ends, Passed, Targets, Field, FieldMode, Gate, Holds, Loaded, HoldsLoaded, Sole, Labels, IsWellTyped, IsNotSole, RegisterOf, ObjectState, Shut, IsSole, World, WinOk, in_ref, lang_of, has_returned, is_withdrawing, is_ended, Closing, Without, changes_objects, makes_object, frees_object, objects_behind, State, Runs, IsSmall, StageStands, GateStands, StopStands, OnHold, OnExit, object_of_cell, number_in, label_now, size_of_run, IsOn, MachineInvariant, IsAlone, WindowStands, label_of, Keeps, CodeBegins, CellsAreThere, PointersAreThere, AccessesAreAllowed, StateStands, yes, is_access, or_right, not_false, put_same, put_other}, TurnAt.{RunOf, turn_at, told_at, turn_stands}, Single.rests_hold, Stands.{register_is, gate, reads_ref}, Finds.is_there, Tables.{header_of, was_live}, Consists.{Consists, consists_then, objects_then, effect_then, given}, Acts.{access_said, thread_said, given_at, freed_in, freed_at, About, no_access, access_at, IsAccess as TellsAccess, access_of}, Lists.Newest, Modes.dynamic_field, Rules.{over_runs, pushed, newest, number_is, about_now, hold_access, cell_is, can_mode, freed_gone, number_yes, access_single}, Sets.{IsHere, Goes, InSet, NoConflict, Clean}, Carried.{Stands, carried}, Outcomes.{unended, withdraws_still, going_on}, Threaded.or_left}
 
 -- ---- objects and granules as the world has them
 abbrev pub number_of : Object → ℕ

@@ -1,5 +1,5 @@
 -- Instructions of one turn: a thread that stands at one is in the middle of nothing.
-use Rattle.sharc_history_laws.proofs.Imports.{◌≡◌, ℕ, Bool, true, false, List, refl, sym, subst, Code, Instr, Register, Shape, Stage, Rests, Looks, Clears, Makes, Names, Hands, Begins, Enters, Withdraws, WithdrawsFrom, Leaves, Wakes, Machine, World, Heap, StageStands, OnClear, OnNew, OnFree, OnSpawn, OnStart, OnExit, OnSignal, OnHold, Kind, Read, Write, Cell, check_of, single, single_rests}
+use Rattle.sharc_history_laws.proofs.Imports.{◌≡◌, ℕ, true, List, refl, sym, subst, Code, Instr, Shape, Stage, Machine, World, Heap, StageStands, OnHold, Kind, Read, Write, Cell, check_of, single, single_rests}
 
 -- so its block is not to be linked
 pub rests_hold : (code : Code) (s : Shape) (elements : ℕ → ℕ) (w : World) (heap : Heap) (words : List ℕ) (t : ℕ) (m : Machine) (i : Instr) (stage : Stage) → single i ≡ true → StageStands code s elements w heap words t m i stage → OnHold stage

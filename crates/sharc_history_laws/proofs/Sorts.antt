@@ -1,5 +1,5 @@
 -- What each turn is to the state words and to the number of the next thread, and what it makes of the number that a Spawn has drawn.
-use Rattle.sharc_history_laws.proofs.{Imports.{◌≡◌, ℕ, ◌+◌, ◌<◌, Bool, true, false, ◌==◌, nat_lt, length, is_some, Option, Some, None, if◌then◌else◌, refl, sym, ap, ◌∙◌, arith, Decides-ltb, Trap, THREADS, WordOp, WordStep, word_after, Kind, note_of, site_at, noted, Code, Register, Instr, Shape, Stage, Makes, Names, Hands, Begins, Withdraws, WithdrawsFrom, Leaves, TurnOutcome, Stays, Rested, Begun, Refused, Gone, own_after, MayComeOut, ComesOut, has_stage, is_exit, is_ended, state_word, next_thread_word, Machine, Own, StepTurn as Turn, act, with_note, spawn, withdraws, exit, at_stage, numbered, trapped, Local, Asks, step_of, instr_at, after, turn, asked_by, counted, IsStageOf, drawn_of, yes, inl, inr, Aim, BuildsIn, TurnAim, ThreadLaws, note_stage}, Outcomes.unended}
+use Rattle.sharc_history_laws.proofs.{Imports.{◌≡◌, ℕ, ◌+◌, ◌<◌, Bool, true, false, ◌==◌, nat_lt, length, Option, Some, None, if◌then◌else◌, refl, sym, ap, ◌∙◌, arith, Decides-ltb, Trap, THREADS, WordOp, WordStep, word_after, Code, Register, Instr, Shape, Stage, Makes, Names, Hands, Begins, Withdraws, WithdrawsFrom, Leaves, TurnOutcome, Stays, Rested, Begun, Refused, Gone, own_after, MayComeOut, ComesOut, has_stage, is_exit, is_ended, state_word, next_thread_word, Machine, Own, StepTurn as Turn, act, spawn, withdraws, exit, at_stage, numbered, trapped, Local, Asks, step_of, instr_at, after, turn, asked_by, counted, IsStageOf, drawn_of, yes, inl, inr, Aim, BuildsIn, TurnAim, ThreadLaws}, Outcomes.unended}
 use Rattle.sharc_code.specs.Aims.{is_spawn}
 
 -- ---- words that say something of a thread

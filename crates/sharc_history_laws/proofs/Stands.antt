@@ -1,5 +1,5 @@
 -- What the invariant says of a thread that goes on: its registers, the gate of its place, and the cells that its instruction names.
-use Rattle.sharc_history_laws.proofs.{Imports.{◌≡◌, ℕ, suc, ◌+◌, ◌^◌, ◌<◌, ◌≢◌, Bool, true, false, cond, refl, sym, ap, ◌∙◌, subst, arith, nat_tests, slice_index, ◌==◌, Code, Cell, Instr, Shape, Stage, Links, Fits, granules, Machine, instr_at, ref, is_of_null, Global, Targets, ObjectType, StaticType, Field, Sole, Refers, Label, Labels, IsWellTyped, HasCell, HasBase, RegisterOf, In, Slot, IsSole, World, in_ref, lang_of, is_freed, CellIsThere as IsThere, State, Runs, TopStands, EntryStands, GateStands, OnHold, label_now, refs_at, types_at, IsOn, CellsAreThere, label_held, freed_held}, TurnAt.thread_at}
+use Rattle.sharc_history_laws.proofs.{Imports.{◌≡◌, ℕ, suc, ◌+◌, ◌^◌, ◌<◌, ◌≢◌, Bool, true, false, cond, refl, sym, ap, ◌∙◌, subst, arith, nat_tests, slice_index, ◌==◌, Code, Cell, Shape, Fits, granules, Machine, instr_at, ref, is_of_null, Global, Targets, ObjectType, StaticType, Field, Sole, Refers, Label, Labels, IsWellTyped, HasCell, HasBase, RegisterOf, In, Slot, IsSole, World, in_ref, lang_of, CellIsThere as IsThere, State, Runs, TopStands, EntryStands, GateStands, OnHold, label_now, refs_at, types_at, IsOn, CellsAreThere, label_held, freed_held}, TurnAt.thread_at}
 
 module _ (x : Targets) (code : Code) (s : Shape) (ls : Labels) (wt : IsWellTyped x code ls) (fits : Fits code s) (g : Global Machine) (world : World) (st : State x code s ls g world) where
   -- a register is what the world says

@@ -1,5 +1,5 @@
 -- Each turn of typed code leaves the cells with what the events say that they hold.
-use Rattle.sharc_history_laws.proofs.{Imports.{◌≡◌, ℕ, pos, zero, suc, ◌+◌, ◌*◌, ◌≢◌, ◌⊎◌, inl, inr, Bool, true, false, ◌||◌, List, ◌∷◌, Option, Some, None, refl, sym, ap, ◌∙◌, subst, ⊎_elim, arith, slice_index, WordOp, Act, CellAt, Object, SourceEvent, Resolution, Code, Cell, Instr, Shape, word_of, RunLaws, Fits, Machine, instr_at, int, ref, word, act, object, turn, asked_by, Turn, Global, MayTurn, after_turn, words_now, said, cell_at, speaks_of, reference, one_thread, bounds, place_after, Elements, table_of, makes, is_cell, is_number, made_by, same_cell, changes, cell_changed, value_left, Targets, Field, Content, Integer, Pointer, field_in, is_pointer, Labels, IsWellTyped, Accesses, HasCell, CellOf, ObjectState, IsSmall, StageStands, OnHold, object_of_cell, number_in, view_of, refs_at, types_at, Keeps, CellsAreThere, PointersAreThere, AccessesAreAllowed, yes, or_right, is_access, back_again, single}, TurnAt.{turn_at, told_at, turn_stands}, Acts.{given_at, freed_at, About, no_access}, Born.born, Consists.{Consists, consists_then, objects_then, after_set, same_table, headed, live_not_built, header_built}, Contents.{newest_value, value_changed, value_kept, value_held, IsCellOf, content_of, word_of_cell, Contents, one_cell, fits_in}, Emptying.{IsFreeing, IsEmptied, emptied_then, begins_freeing}, Holding.cell_eq, Lists.Newest, Locked.Names, Locking.cell_refl, ModesKept.word_spared, OneMode.{place_of, numbers_now}, Rules.{pushed, about_now, decide, number_yes, freed_gone, makes_none}, Shared.number_of, Single.rests_hold, Sparing.{is_value, spares}, Touches.written_cell, Stands.{live_slot, there, top, rn}, Tables.header_of, Telling.{changed_said, unchanged_said}, Unwritten.writes_single, Values.{Kept, kept}}
+use Rattle.sharc_history_laws.proofs.{Imports.{◌≡◌, ℕ, pos, zero, suc, ◌+◌, ◌*◌, ◌≢◌, ◌⊎◌, inl, inr, Bool, true, false, ◌||◌, List, ◌∷◌, Option, Some, None, refl, sym, ap, ◌∙◌, subst, ⊎_elim, arith, slice_index, WordOp, Act, CellAt, Object, SourceEvent, Resolution, Code, Cell, Instr, Shape, word_of, RunLaws, Fits, instr_at, int, ref, word, act, turn, asked_by, Turn, MayTurn, after_turn, words_now, said, cell_at, speaks_of, reference, one_thread, bounds, place_after, Elements, table_of, makes, is_cell, is_number, made_by, same_cell, changes, cell_changed, value_left, Targets, Field, Content, Integer, Pointer, field_in, is_pointer, Labels, IsWellTyped, Accesses, HasCell, CellOf, ObjectState, IsSmall, StageStands, OnHold, object_of_cell, number_in, view_of, refs_at, types_at, Keeps, CellsAreThere, PointersAreThere, AccessesAreAllowed, yes, or_right, is_access, back_again, single}, TurnAt.{turn_at, told_at, turn_stands}, Acts.{given_at, freed_at, About, no_access}, Born.born, Consists.{Consists, consists_then, objects_then, after_set, same_table, headed, live_not_built, header_built}, Contents.{newest_value, value_changed, value_kept, value_held, IsCellOf, content_of, word_of_cell, Contents, one_cell, fits_in}, Emptying.{IsFreeing, IsEmptied, emptied_then, begins_freeing}, Holding.cell_eq, Lists.Newest, Locked.Names, Locking.cell_refl, ModesKept.word_spared, OneMode.{place_of, numbers_now}, Rules.{pushed, about_now, decide, number_yes, freed_gone, makes_none}, Shared.number_of, Single.rests_hold, Sparing.{is_value, spares}, Touches.written_cell, Stands.{live_slot, there, top, rn}, Tables.header_of, Telling.{changed_said, unchanged_said}, Unwritten.writes_single, Values.{Kept, kept}}
 use Rattle.sharc_invariant.specs.Words as Words
 use Rattle.sharc_history_laws.proofs.Placed as Placed
 
