@@ -11,7 +11,7 @@ pub use Rattle.sharc_mode.specs.{Cells.{cell_at, declared_cell, field_cell, fiel
 pub use Rattle.sharc_check.specs.{Constructs.{IsAssigned, IsCall, IsEntity, IsExpression, IsFunction, IsGiven, IsTaken, IsWritten, an_argument, assigned, called, cast_away, freed, initial, locals_in, locals_in_first, returned, spawned}, Paths.{IsAllowed, IsLockPointer, IsMutexBehind, IsNamedByPath, IsSiblingUse, IsThroughConstant, at_target, global_mutex, is_made, is_substituted, is_written, sibling_mutex, sibling_pointer, through as is_through, through_constant}, RuleLaws.{ReachedAreTold, RulesAreMet}, Rules.MeetsRules}
 pub use Rattle.sharc_meaning.specs.{Cells.{base_cells, element_cells, field_place, field_place_behind, field_place_in, field_place_named, global_elements, place_in, struct_cells}, Expressions.number_named, Reference.constant_value, References.{fields_called, is_pointer_in, is_pointer_of_global, made_at, types_made}, State.is_reference, Store.form_value}
 pub use Rattle.sharc_code.specs.{Arithmetic.{holds, word_of}, Machine.{function_of, layout_at, no_function, no_layout}, Ranges.{GlobalsFit, first_place}, Says.no_global, declared.code.Code.Code, declared.code.Function.{Function as Row}, declared.code.GlobalCells.GlobalCells, declared.code.Layout.Layout, declared.code.Parameter.Parameter, declared.code.PlaceMode.PlaceMode, declared.code.Use.Use, declared.instr.Cell.Cell, declared.instr.Register.Register, declared.instr.Register.TheVariants.{Int, Reference}, declared.instr.Width.Width, declared.instr.Width.TheVariants.{Char, Long}}
-pub use Rattle.sharc_flat.specs.{Flattened.{base_layout, behind_first as flat_behind_first, behind_int, behind_ref, behind_statement, function_code, guard_of, in_function as context_in, is_ref, kind_of, layout_of, lvalue_in, mode_of, operator_of, parameter_of, parameters_scope, rows_of, struct_layout, target_of, what_names, with_variable}, Flattens.{Flattens, IsMainOf, names_of}, Framed.IsWide, Laid.AreNamed, Machine.first_cell, Made.flat_of, Places.{Target, base_as_width, beside_field, beside_named, cell_of, global_of, guard_cell, guard_field, guard_named, has_base, in_global, in_global_at, in_object, in_object_at, lock_beside, lock_cell, mode_beside, mode_named, named_target, own_field, place_mode, spot_of, target, width_of}, Scope.{Context, int_count, number_in, ref_count, register_from, register_of, slot_kind, slot_of}, Suits.{ArgumentsSuit, CallSuits, CountSuits, Either, FirstSuits, IfThere, IndexSuits, InitialSuits, IsScalar, LeftSuits, NameSuits, OperandsSuit, PathNamed, PathStands, PlaceSuits, ReferencesSuit, RightSuits, SameSort, SimpleSuits, StatementSuits, StatementsSuit, Suits, TakeSuits, TestSuits, in_first as suits_first, in_statement as suits_statement, is_cell, kind_in}, Tables.{all_first_words, all_granules, all_pointers, cells_in, first_words, globals_from, globals_of, granules_in, layouts_from, layouts_of, pointers_among, pointers_of}, declared.flat.Flat.{Flat as FlatCode}, declared.op.Spot.Spot, declared.slot.Lvalue.Lvalue, declared.slot.Slot.Slot}
+pub use Rattle.sharc_flat.specs.{Flattened.{base_layout, behind_first as flat_behind_first, behind_int, behind_ref, behind_statement, function_code, guard_of, in_function as context_in, is_ref, kind_of, layout_of, lvalue_in, mode_of, operator_of, parameter_of, parameters_scope, rows_of, struct_layout, target_of, what_names, with_variable}, Flattens.{Flattens, IsMainOf, names_of}, Framed.IsWide, Machine.first_cell, Made.flat_of, Places.{Target, base_as_width, beside_field, beside_named, cell_of, global_of, guard_cell, guard_field, guard_named, has_base, in_global, in_global_at, in_object, in_object_at, lock_beside, lock_cell, mode_beside, mode_named, named_target, own_field, place_mode, spot_of, target, width_of}, Scope.{Context, int_count, number_in, ref_count, register_from, register_of, slot_kind, slot_of}, Suits.{ArgumentsSuit, CallSuits, CountSuits, Either, FirstSuits, IfThere, IndexSuits, InitialSuits, IsScalar, LeftSuits, NameSuits, OperandsSuit, PathNamed, PathStands, PlaceSuits, ReferencesSuit, RightSuits, SameSort, SimpleSuits, StatementSuits, StatementsSuit, Suits, TakeSuits, TestSuits, in_first as suits_first, in_statement as suits_statement, is_cell, kind_in}, Tables.{all_first_words, all_granules, all_pointers, cells_in, first_words, globals_from, globals_of, granules_in, layouts_from, layouts_of, pointers_among, pointers_of}, declared.flat.Flat.{Flat as FlatCode}, declared.op.Spot.Spot, declared.slot.Lvalue.Lvalue, declared.slot.Slot.Slot}
 pub use Rattle.sharc_guard.specs.{Guard.{entered_at, place}, Known.dropped}
 pub use Rattle.sharc_flat_laws.specs.{Stands.TypedSuits, Tables.MadeTablesFit}
 pub use Rattle.sharc_invariant.specs.{Labels.{AllSame, Anything, Chained, Closed, Copies, Element, Empty, EntryMentions, Gate, HasCopy, IsCopy, Itself, Label, Labels, LessNumber, Loaded, Narrower, OfGlobal, Refers, SameLock, SameReference, Signature, Within, gated}, Typed.{AreFieldLocks, AreGlobals, HasBefore, HasCell, HasField, Initial, IsAlone, IsAnyGlobalLock, IsAnyLock, IsFieldLock, IsGlobalLock, IsInGlobal, IsLayout, IsLockCell, IsLockMode, IsMode, IsRef, IsSameContent, IsSameFieldLock, IsShared, IsSibling, IsTypeLock, IsTypeMode, Passes, PassesLock, PointsTo, PointsToMutex, Recasts, is_comparison, is_shift, no_lock, refs_in}, Types.{AreTargets, CellMode as cell, Content, Field, FieldLock, FieldMode, FieldType, Integer, Lock as TypeLock, Mentions, MutexWord, ObjectType, OfElement, OfGlobals, OfType, Pointer, SomeNames, StaticType, Target as TableTarget, Under, Waiters, cells_of, field_at, field_in, field_mutex, field_of_cell, global_field, globals_target, mode_at, mode_in, no_field, no_target, row_of, type_at, type_in}, Types.Lock.{Global, Self, Through as InRegister}}

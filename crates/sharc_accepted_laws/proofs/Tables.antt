@@ -1,30 +1,9 @@
 -- The tables of code that is made of a program.
-use Rattle.sharc_accepted_laws.proofs.Imports.{◌≡◌, ℕ, zero, suc, pos, ◌+◌, ◌^◌, ◌<◌, ◌≤◌, Bool, List, [], ◌∷◌, length, map, slice_get, slice_index, get_or as slice_index_or, refl, ap, sym, ◌∙◌, subst, arith, Some, length-map, unsigned_abs, Span, GlobalDefinition, GlobalForm, Function, Constant, Code, Row, GlobalCells, no_function, GlobalsFit, globals_in, functions_in, function_at, Assignment, FlatCode, flat_of, parameter_of, function_code, rows_of, Flattens, names_of, AreNamed, globals_of, entered_at, place, dropped, MadeTablesFit, AreGlobals, SomeAreAlone, IsAccepted, GranulesAreFew, IsCounted, CountedForm, HasTables, TargetsAre, GlobalsHold, targets_of, AreUnsigned, CodeIsSet, HasRow, same_some, none_some, place_of_element, to_each}
+use Rattle.sharc_accepted_laws.proofs.Imports.{◌≡◌, ℕ, pos, ◌+◌, ◌^◌, ◌<◌, ◌≤◌, Bool, List, [], ◌∷◌, length, map, slice_get, slice_index, get_or as slice_index_or, refl, ap, sym, ◌∙◌, subst, arith, Some, length-map, unsigned_abs, Span, GlobalDefinition, GlobalForm, Function, Constant, Code, Row, GlobalCells, no_function, GlobalsFit, globals_in, functions_in, function_at, Assignment, FlatCode, flat_of, rows_of, Flattens, names_of, globals_of, entered_at, place, dropped, MadeTablesFit, AreGlobals, SomeAreAlone, IsAccepted, GranulesAreFew, IsCounted, CountedForm, HasTables, TargetsAre, GlobalsHold, targets_of, AreUnsigned, CodeIsSet, HasRow, place_of_element, to_each}
 use Rattle.sharc_tree.specs.{declared.token.Number.Number, declared.tree.item.GlobalForm.TheVariants.Initial}
 use Rattle.sharc_compile.specs.Made.{IsCodeOf}
-
--- ---- rows
-record RowAt (made : List Row) (n : ℕ) (g : Function) : Type 0 where
-  low : n < length made
-  parameter : (slice_index_or made n no_function).parameter ≡ parameter_of g.parameters
-
-later_row : (y : Row) (made : List Row) (n : ℕ) (g : Function) → RowAt made n g → RowAt (y ∷ made) (suc n) g
-later_row y made n g r = let low = r.low in record { low = omega (arith, low); parameter = r.parameter }
-
-row_at : (m : Assignment) (globals : List GlobalCells) (bytes : List ℕ) (pc : ℕ) (fs : List Function) (names : List (List ℕ)) (made : List Row) → AreNamed bytes (rows_of m globals pc fs) names made
-    → (n : ℕ) (g : Function) → slice_get fs n ≡ Some g → RowAt made n g
-row_at m globals bytes pc [] names made h n g is = absurd (none_some g is)
-row_at m globals bytes pc (f ∷ rest) [] made h n g is = absurd h
-row_at m globals bytes pc (f ∷ rest) (name ∷ names) [] h n g is = absurd h
-row_at m globals bytes pc (f ∷ rest) (name ∷ names) (y ∷ made) h zero g is =
-    record { low = omega arith; parameter = ap (λ (r : Row). r.parameter) h.0.is ∙ ap (λ (f : Function). parameter_of f.parameters) (same_some f g is) }
-row_at m globals bytes pc (f ∷ rest) (name ∷ names) (y ∷ made) h (suc n) g is =
-    later_row y made n g (row_at m globals bytes (pc + length (function_code m globals pc f)) rest names made h.1 n g is)
-
-entered_row : (pl : ℕ → ℕ) (made : List Row) (n : ℕ) → (slice_index_or (map (entered_at pl) made) n no_function).parameter ≡ (slice_index_or made n no_function).parameter
-entered_row pl [] n = refl
-entered_row pl (y ∷ made) zero = refl
-entered_row pl (y ∷ made) (suc n) = entered_row pl made n
+use Rattle.sharc_flat_lemmas.proofs.{Functions.{are_rows, row_of, rows_as_many}, Laid.{mapped_same, rows_many, rows_same}}
+use Rattle.sharc_lemmas.proofs.Lists.{there_is}
 
 -- ---- constants
 counted : (k : Number) (n : ℕ) → k.value ≡ pos n → IsCounted (Constant.Number k)
@@ -37,7 +16,7 @@ counted_form _ unsigned = tt
 module _ (alone : SomeAreAlone) (targets : TargetsAre) (globals_hold : GlobalsHold) (fit : MadeTablesFit) (granules : GranulesAreFew) (m : Assignment) (a : IsAccepted m) (flat : FlatCode) (made : Flattens m flat) (code : Code) (is : IsCodeOf flat code) where
   tables : HasTables m code
   tables = record {
-    globals = ap (λ v. v.items) (is.generated.globals ∙ is.made.globals) ∙ made.lays.globals;
+    globals = ap (λ v. v.items) (is.generated.globals ∙ is.made.globals) ∙ made.globals;
     granules = is.generated.granules ∙ is.made.granules ∙ made.granules;
     initial = ap (λ v. v.items) (is.generated.initial ∙ is.made.initial) ∙ made.initial;
     layouts = ap (λ v. v.items) (is.generated.layouts ∙ is.made.layouts) ∙ made.layouts;
@@ -49,12 +28,16 @@ module _ (alone : SomeAreAlone) (targets : TargetsAre) (globals_hold : GlobalsHo
 
   rows : (n : ℕ) (g : Function) → function_at m.typed n ≡ Some g → HasRow code n g
   rows n g at =
-      let r = row_at m (globals_of m.typed) flat.texts.items 0 (functions_in m.typed.program.items) (names_of (functions_in m.typed.program.items)) flat.functions.items made.lays.functions n g at in
+      let fs = functions_in m.typed.program.items in
+      let gs = globals_of m.typed in
+      let told = rows_of m gs 0 fs in
+      let are = are_rows m gs 0 fs in
       let pl = place (dropped (flat_of flat)) flat.lines.items in
       let count : length code.functions.items ≡ length flat.functions.items = ap (λ (list : List Row). length list) rows_are ∙ length-map flat.functions.items (entered_at pl) in
       record {
-        low = subst (λ k. n < k) (sym count) r.low;
-        parameter = ap (λ (list : List Row). (slice_index_or list n no_function).parameter) rows_are ∙ entered_row pl flat.functions.items n ∙ r.parameter;
+        low = omega (arith, there_is fs n g at, rows_as_many m gs 0 fs told are, rows_many flat.texts.items told (names_of fs) flat.functions.items made.functions, count);
+        parameter = ap (λ (list : List Row). (slice_index_or list n no_function).parameter) rows_are ∙ mapped_same (λ row. row.parameter) (entered_at pl) (λ row. refl) flat.functions.items n
+            ∙ rows_same (λ row. row.parameter) (λ row name. refl) flat.texts.items told (names_of fs) flat.functions.items made.functions n ∙ (row_of m gs 0 fs told are n g at).parameter;
       }
 
   globals_are : AreUnsigned m.typed → AreGlobals (targets_of m) code

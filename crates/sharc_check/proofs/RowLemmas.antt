@@ -1,12 +1,13 @@
 -- Going over a row from its first target down.
-use Rattle.sharc_check.proofs.Imports.{◌≡◌, ℕ, ◌+◌, ◌<◌, ◌≤◌, Bool, false, ◌||◌, cond, List, [], ◌∷◌, ◌++◌, length, drop, Option, Some, None, refl, ap, sym, ◌∙◌, subst, append_assoc, flat_map, list_any, option_map, option_or, Base, Span, Declaration, Arguments, Resolution, CastChangesInnerMode, pointed, Assignment, cast_notes, mismatch, shown, unmet, unmet_in, RowLaws, Targets, deeper, modes_of, Lock, Sharing, same_all}
+use Rattle.sharc_check.proofs.Imports.{◌≡◌, ℕ, ◌+◌, ◌<◌, ◌≤◌, Bool, false, ◌||◌, cond, List, [], ◌∷◌, ◌++◌, length, drop, Option, Some, None, refl, ap, sym, ◌∙◌, subst, append_assoc, arith, flat_map, list_any, option_map, option_or, Base, Span, Declaration, Arguments, Resolution, CastChangesInnerMode, pointed, Assignment, cast_notes, mismatch, shown, unmet, unmet_in, RowLaws, position_count, Targets, deeper, modes_of, Lock, Sharing, same_all}
 
-pub step_row : (laws : RowLaws) (m : Assignment) (row next : Targets) (s : Sharing) → 0 < row.count → row.first + row.count ≤ length m.modes → s ≡ pointed m (Some row) → next ≡ deeper row → modes_of m row ≡ s ∷ modes_of m next
-step_row laws m row next s some ends s_is next_is =
-    laws.begins m row some ends ∙ ap (λ x. x ∷ modes_of m (deeper row)) (sym s_is) ∙ ap (λ r. s ∷ modes_of m r) (sym next_is)
-
-pub step_ends : (laws : RowLaws) (limit : ℕ) (row next : Targets) → row.first + row.count ≤ limit → next ≡ deeper row → next.first + next.count ≤ limit
-step_ends laws limit row next ends next_is = subst (λ (r : Targets). r.first + r.count ≤ limit) (sym next_is) (laws.ends limit row ends)
+-- a row and what is below its first target
+pub step_on : (laws : RowLaws) (m : Assignment) (row next : Targets) (s : Sharing) → length m.modes ≡ position_count m.typed → 0 < row.count → row.first + row.count ≤ position_count m.typed → s ≡ pointed m (Some row) → next ≡ deeper row
+    → (next.first + next.count ≤ position_count m.typed) × (modes_of m row ≡ s ∷ modes_of m next)
+step_on laws m row next s whole some ends s_is next_is = (
+  subst (λ (r : Targets). r.first + r.count ≤ position_count m.typed) (sym next_is) (laws.ends (position_count m.typed) row ends),
+  laws.begins m row some (omega (arith, ends, whole)) ∙ ap (λ x. x ∷ modes_of m (deeper row)) (sym s_is) ∙ ap (λ r. s ∷ modes_of m r) (sym next_is),
+)
 
 pub said_one : {A B : Type 0} (f : A → List B) (all rest : List A) (s : A) (before after whole : List B) → all ≡ s ∷ rest → after ≡ before ++ f s → before ++ flat_map f all ≡ whole → after ++ flat_map f rest ≡ whole
 said_one f all rest s before after whole all_is after_is were =

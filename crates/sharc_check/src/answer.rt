@@ -9,11 +9,11 @@ use crate::moved_variables::settle;
 use crate::named::NamedVariables;
 use crate::order::put_in_order;
 use crate::rule_laws::rules_are_met;
+use crate::rules::Notes;
 use crate::statement::items;
 use crate::threads::{spawned, touched};
 use crate::types::types;
 use sharc_mode::error::ModeErrors;
-use sharc_mode::finding::Finding;
 use sharc_mode::laws::mode_laws;
 use sharc_mode::moded::Moded;
 use sharc_reach::Reached;
@@ -63,16 +63,16 @@ impl Checked {
 }
 
 /// What is to be said of a program, by what is reached in it.
-fn said(alloc: Global, program: &Moded, reached: &Reached) -> Result<Vec<Finding>, AllocError>
+fn said(alloc: Global, program: &Moded, reached: &Reached) -> Result<Notes, AllocError>
     requires { AreReached program.now.typed reached.now }
     ensures { IfOk result (λ notes. notes.items ≡ notes_about program.now (touched_by reached.now)) }
 {
     let tree = program.typed().program();
     let mut notes = Vec::new(alloc);
-    types(alloc, program, &mut notes)?;
-    spawned(alloc, program, reached, &mut notes)?;
-    touched(alloc, program, reached, &mut notes)?;
-    items(alloc, program, tree.items.as_slice(), &mut notes)?;
+    types(program, &mut notes)?;
+    spawned(program, reached, &mut notes)?;
+    touched(program, reached, &mut notes)?;
+    items(program, tree.items.as_slice(), &mut notes)?;
     Ok(notes)
 }
 

@@ -6,24 +6,21 @@ ghost use Rattle.sharc_ctype.specs.{Resolved.named_at, Transfers.parameters_name
 ghost use Rattle.sharc_mode.specs.{Expressions.{expected, notes_of, notes_of_all}, Notes.{agree_notes, call_notes}};
 
 use crate::passing::{Passed, Passing, without_first};
-use crate::rules::{Noted, agree, call, cast, expected, field, place, source};
+use crate::rules::{Notes, Noting, agree, call, cast, expected, field, place, source};
 use sharc_ctype::typed::parameters_named;
-use sharc_mode::finding::Finding;
 use sharc_mode::moded::Moded;
 use sharc_mode::row::{PathReading, base_use, named_row};
 use sharc_tree::token::Span;
 use sharc_tree::tree::{Declaration, Expr, Identifier};
-use std::alloc::Global;
 
 // What is said of a spawn, beside what is said of what it passes.
 fn spawned(
-    alloc: Global,
     program: &Moded,
     span: Span,
     name: &Identifier,
     value: &Expr,
-    notes: &mut Vec<Finding>,
-) -> Noted
+    notes: &mut Notes,
+) -> Noting
     ensures { let ds = parameters_named program.now.typed (named_at program.now.typed name.now.site.token) in
         let all = argument (view_expr value.now) no_arguments in
         OnOk result (notes.new.items ≡ notes.old.items
@@ -37,37 +34,32 @@ fn spawned(
         passed: Passed::One(value),
     };
     let wanted = expected(program, passing, parameters);
-    agree(alloc, program, wanted, value, notes)?;
-    call(alloc, program, span, passing, notes)
+    agree(program, wanted, value, notes)?;
+    call(program, span, passing, notes)
 }
 
 /// Says what is to be said of an expression.
 #[cycle(expr)]
-pub(crate) fn expression(
-    alloc: Global,
-    program: &Moded,
-    expr: &Expr,
-    notes: &mut Vec<Finding>,
-) -> Noted
+pub(crate) fn expression(program: &Moded, expr: &Expr, notes: &mut Notes) -> Noting
     ensures { OnOk result (notes.new.items ≡ notes.old.items ++ notes_of program.now (view_expr expr.now)) }
 {
     match expr {
         Expr::Identifier(_, _) | Expr::Constant(_, _) => Ok(()),
-        Expr::Parentheses(_, inner) => expression(alloc, program, inner, notes),
-        Expr::Call(span, name, list) => called(alloc, program, *span, name, list.as_slice(), notes),
+        Expr::Parentheses(_, inner) => expression(program, inner, notes),
+        Expr::Call(span, name, list) => called(program, *span, name, list.as_slice(), notes),
         Expr::Spawn(span, name, value) => {
-            expression(alloc, program, value, notes)?;
-            spawned(alloc, program, *span, name, value, notes)
+            expression(program, value, notes)?;
+            spawned(program, *span, name, value, notes)
         }
-        Expr::OnValue(_, _, value) => expression(alloc, program, value, notes),
+        Expr::OnValue(_, _, value) => expression(program, value, notes),
         Expr::OnPlace(_, what, inner) => {
-            expression(alloc, program, inner, notes)?;
-            place(alloc, program, *what, inner, notes)
+            expression(program, inner, notes)?;
+            place(program, *what, inner, notes)
         }
         Expr::Cast(span, to, from) => {
-            expression(alloc, program, from, notes)?;
-            source(alloc, program, from, notes)?;
-            cast(alloc, program, *span, to, from, notes)
+            expression(program, from, notes)?;
+            source(program, from, notes)?;
+            cast(program, *span, to, from, notes)
         }
         Expr::Field {
             span,
@@ -75,16 +67,16 @@ pub(crate) fn expression(
             access,
             name,
         } => {
-            expression(alloc, program, base, notes)?;
+            expression(program, base, notes)?;
             let typed = program.typed();
             let targets = named_row(typed, PathReading::Written, typed.named(name.site.token));
             let through = base_use(typed, *access, base);
-            field(alloc, program, *span, through, targets, notes)
+            field(program, *span, through, targets, notes)
         }
-        Expr::Unary(_, _, operand) => expression(alloc, program, operand, notes),
+        Expr::Unary(_, _, operand) => expression(program, operand, notes),
         Expr::Index(_, left, right) | Expr::Binary { left, right, .. } => {
-            expression(alloc, program, left, notes)?;
-            expression(alloc, program, right, notes)
+            expression(program, left, notes)?;
+            expression(program, right, notes)
         }
     }
 }
@@ -92,13 +84,12 @@ pub(crate) fn expression(
 /// Says what is to be said of a call, and of its arguments.
 #[cycle(expr)]
 fn called(
-    alloc: Global,
     program: &Moded,
     span: Span,
     name: &Identifier,
     list: &[Expr],
-    notes: &mut Vec<Finding>,
-) -> Noted
+    notes: &mut Notes,
+) -> Noting
     ensures { let ds = parameters_named program.now.typed (named_at program.now.typed name.now.site.token) in
         let all = view_arguments list.now in
         OnOk result (notes.new.items ≡ notes.old.items
@@ -112,10 +103,10 @@ fn called(
     };
     let mut left = parameters;
     for expr in list {
-        expression(alloc, program, expr, notes)?;
+        expression(program, expr, notes)?;
         let wanted = expected(program, passing, left);
-        agree(alloc, program, wanted, expr, notes)?;
+        agree(program, wanted, expr, notes)?;
         left = without_first(left);
     }
-    call(alloc, program, span, passing, notes)
+    call(program, span, passing, notes)
 }

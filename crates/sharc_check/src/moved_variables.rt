@@ -5,7 +5,7 @@ ghost use Rattle.sharc_mode.specs.Notes.{errors_of};
 ghost use Rattle.sharc_check.specs.Settles.{taken_errors, settled, marked, marks, past, past_all};
 
 use crate::named::NamedVariables;
-use crate::rules::error;
+use crate::rules::{Notes, Noting, error};
 use sharc_ctype::typed::Typed;
 use sharc_mode::error::{ErrorCode, ModeError};
 use sharc_mode::finding::Finding;
@@ -64,16 +64,11 @@ fn marks(alloc: Global, notes: &[Finding]) -> Result<NamedVariables, AllocError>
 }
 
 /// The case that a variable or a global is taken that a path names.
-fn taken(
-    alloc: Global,
-    typed: &Typed,
-    named: bool,
-    taken: (Span, u32),
-    errors: &mut Vec<ModeError>,
-) -> Result<(), AllocError>
+fn taken(typed: &Typed, named: bool, taken: (Span, u32), errors: &mut Vec<ModeError>) -> Noting
     ensures { OnOk result (errors.new.items ≡ errors.old.items ++ taken_errors typed.now named taken.0 taken.1) }
 {
     if named {
+        let alloc = *errors.allocator();
         let subject = Name::from_slice(alloc, text_at(typed, taken.1))?;
         if let Finding::Wrong(case) = error(alloc, ErrorCode::NamedByLockPath, taken.0, subject) {
             errors.push(case)?;
@@ -83,12 +78,11 @@ fn taken(
 }
 
 fn settle_one(
-    alloc: Global,
     typed: &Typed,
     named: &NamedVariables,
     note: Finding,
     errors: &mut Vec<ModeError>,
-) -> Result<(), AllocError>
+) -> Noting
     ensures { OnOk result (errors.new.items ≡ errors.old.items ++ settled typed.now named.now note) }
 {
     match note {
@@ -98,7 +92,7 @@ fn settle_one(
         }
         Finding::Names(_) => Ok(()),
         Finding::Takes(span, variable) => {
-            taken(alloc, typed, named.has(variable), (span, variable), errors)
+            taken(typed, named.has(variable), (span, variable), errors)
         }
     }
 }
@@ -108,13 +102,13 @@ fn settle_back(
     alloc: Global,
     typed: &Typed,
     named: &NamedVariables,
-    mut list: Vec<Finding>,
+    mut list: Notes,
 ) -> Result<Vec<ModeError>, AllocError>
     ensures { IfOk result (λ errors. reverse errors.items ≡ flat_map (settled typed.now named.now) list.items) }
 {
     let mut errors = Vec::new(alloc);
     while let Some(note) = list.pop() {
-        settle_one(alloc, typed, named, note, &mut errors)?;
+        settle_one(typed, named, note, &mut errors)?;
     }
     Ok(errors)
 }
@@ -123,7 +117,7 @@ fn settle_back(
 pub(crate) fn settle(
     alloc: Global,
     typed: &Typed,
-    notes: Vec<Finding>,
+    notes: Notes,
 ) -> Result<(Vec<ModeError>, NamedVariables), AllocError>
     ensures errors { IfOk result (λ found. found.0.items ≡ errors_of typed.now notes.items) }
     ensures named { IfOk result (λ found. found.1 ≡ marks notes.items) }

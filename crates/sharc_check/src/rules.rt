@@ -36,7 +36,10 @@ use sharc_tree::tree::{Declaration, Expr, PlaceCall, WrittenType};
 use std::alloc::{AllocError, Global};
 
 /// Whether the findings could be added: nothing but memory can be lacking.
-pub type Noted = Result<(), AllocError>;
+pub type Noting = Result<(), AllocError>;
+
+/// What is to be said of a program, in the order in which it was found.
+pub type Notes = Vec<Finding>;
 
 /// `void` with no levels, where no type is shown.
 fn no_type(alloc: Global) -> CType
@@ -82,20 +85,20 @@ pub(crate) fn mismatch(
 
 /// Says that the modes of two rows differ.
 fn differ(
-    alloc: Global,
     program: &Moded,
     code: ErrorCode,
     span: Span,
     root: Root<'_>,
     rows: (Targets<'_>, Targets<'_>),
-    notes: &mut Vec<Finding>,
-) -> Noted
+    notes: &mut Notes,
+) -> Noting
     requires expected { rows.0.first + rows.0.count ≤ position_count program.now.typed }
     requires found { rows.1.first + rows.1.count ≤ position_count program.now.typed }
     ensures { OnOk result (notes.new.items ≡ notes.old.items ++ mismatch code span
         (shown program.now.typed (view_root root.entry) (modes_of program.now (view_row rows.entry.0)))
         (shown program.now.typed (view_root root.entry) (modes_of program.now (view_row rows.entry.1))) ∷ []) }
 {
+    let alloc = *notes.allocator();
     let (expected, found) = rows;
     let expected = shown(alloc, program, root, expected)?;
     let found = shown(alloc, program, root, found)?;
@@ -105,12 +108,11 @@ fn differ(
 
 /// M1: the modes of an expression are those that are expected; NULL agrees with every pointer type.
 pub(crate) fn agree(
-    alloc: Global,
     program: &Moded,
     expected: Option<Targets<'_>>,
     expr: &Expr,
-    notes: &mut Vec<Finding>,
-) -> Noted
+    notes: &mut Notes,
+) -> Noting
     requires { EndsWithin program.now.typed expected }
     ensures { OnOk result (notes.new.items ≡ notes.old.items ++ agree_notes program.now
         (option_map (modes_of program.now) (view_rows expected.entry)) (view_expr expr.now)) }
@@ -123,7 +125,6 @@ pub(crate) fn agree(
             } else {
                 let root = root_of_kind(typed.kind_at(expr));
                 differ(
-                    alloc,
                     program,
                     ErrorCode::ModeMismatch,
                     expr.span(),
@@ -138,18 +139,13 @@ pub(crate) fn agree(
 }
 
 /// Says that a place is readonly, where it is.
-fn readonly(
-    alloc: Global,
-    program: &Moded,
-    code: ErrorCode,
-    place: &Expr,
-    notes: &mut Vec<Finding>,
-) -> Noted
+fn readonly(program: &Moded, code: ErrorCode, place: &Expr, notes: &mut Notes) -> Noting
     ensures { OnOk result (notes.new.items
         ≡ notes.old.items ++ error_where (is_readonly (cell_at program.now (view_expr place.now))) code
         (span_of (view_expr place.now)) (span_text program.now.typed (span_of (view_expr place.now)))) }
 {
     if is_readonly(cell_of(program, place)) {
+        let alloc = *notes.allocator();
         let span = place.span();
         let text = span_text(alloc, program.typed(), span)?;
         notes.push(error(alloc, code, span, text))?;
@@ -158,21 +154,20 @@ fn readonly(
 }
 
 /// M2
-pub(crate) fn write(alloc: Global, program: &Moded, place: &Expr, notes: &mut Vec<Finding>) -> Noted
+pub(crate) fn write(program: &Moded, place: &Expr, notes: &mut Notes) -> Noting
     ensures { OnOk result (notes.new.items ≡ notes.old.items ++ write_notes program.now (view_expr place.now)) }
 {
-    readonly(alloc, program, ErrorCode::ReadonlyWrite, place, notes)
+    readonly(program, ErrorCode::ReadonlyWrite, place, notes)
 }
 
 /// M8: the modes of the targets from depth 2 on are those of the source.
 pub(crate) fn cast(
-    alloc: Global,
     program: &Moded,
     span: Span,
     to: &WrittenType,
     from: &Expr,
-    notes: &mut Vec<Finding>,
-) -> Noted
+    notes: &mut Notes,
+) -> Noting
     ensures { OnOk result (notes.new.items
         ≡ notes.old.items ++ cast_notes program.now.typed to.now.span to.now.ctype.base
         (modes_of program.now (cast_row program.now.typed span)) (modes_at program.now (view_expr from.now))) }
@@ -189,7 +184,6 @@ pub(crate) fn cast(
             } else {
                 let root = root_of(&to.ctype.base);
                 differ(
-                    alloc,
                     program,
                     ErrorCode::CastChangesInnerMode,
                     to.span,
@@ -212,7 +206,7 @@ pub fn taken_variable(typed: &Typed, place: &Expr) -> Option<u32>
     }
 }
 
-fn takes(span: Span, variable: Option<u32>, notes: &mut Vec<Finding>) -> Noted
+fn takes(span: Span, variable: Option<u32>, notes: &mut Notes) -> Noting
     ensures { OnOk result (notes.new.items ≡ notes.old.items ++ takes span variable) }
 {
     if let Some(variable) = variable {
@@ -222,37 +216,26 @@ fn takes(span: Span, variable: Option<u32>, notes: &mut Vec<Finding>) -> Noted
 }
 
 /// M9, and what M10 asks for.
-pub(crate) fn source(
-    alloc: Global,
-    program: &Moded,
-    place: &Expr,
-    notes: &mut Vec<Finding>,
-) -> Noted
+pub(crate) fn source(program: &Moded, place: &Expr, notes: &mut Notes) -> Noting
     ensures { OnOk result (notes.new.items ≡ notes.old.items ++ source_notes program.now (view_expr place.now)) }
 {
-    readonly(alloc, program, ErrorCode::ReadonlySource, place, notes)?;
+    readonly(program, ErrorCode::ReadonlySource, place, notes)?;
     let variable = taken_variable(program.typed(), place.without_parentheses());
     takes(place.span(), variable, notes)
 }
 
 /// The argument of `lock`, `unlock` or `free`.
-pub(crate) fn place(
-    alloc: Global,
-    program: &Moded,
-    call: PlaceCall,
-    place: &Expr,
-    notes: &mut Vec<Finding>,
-) -> Noted
+pub(crate) fn place(program: &Moded, call: PlaceCall, place: &Expr, notes: &mut Notes) -> Noting
     ensures { OnOk result (notes.new.items ≡ notes.old.items ++ place_notes program.now call (view_expr place.now)) }
 {
     match call {
         PlaceCall::Lock => Ok(()),
         PlaceCall::Unlock => Ok(()),
-        PlaceCall::Free => source(alloc, program, place, notes),
+        PlaceCall::Free => source(program, place, notes),
     }
 }
 
-fn name(variable: Option<u32>, notes: &mut Vec<Finding>) -> Noted
+fn name(variable: Option<u32>, notes: &mut Notes) -> Noting
     ensures { OnOk result (notes.new.items ≡ notes.old.items ++ names_of variable) }
 {
     if let Some(variable) = variable {
@@ -262,7 +245,7 @@ fn name(variable: Option<u32>, notes: &mut Vec<Finding>) -> Noted
 }
 
 /// The variable or the global that the path of a mode names.
-pub(crate) fn name_in(typed: &Typed, s: Sharing<'_>, notes: &mut Vec<Finding>) -> Noted
+pub(crate) fn name_in(typed: &Typed, s: Sharing<'_>, notes: &mut Notes) -> Noting
     ensures { OnOk result (notes.new.items ≡ notes.old.items ++ names_in typed.now (view_sharing s.entry)) }
 {
     match s {
@@ -275,7 +258,7 @@ pub(crate) fn name_in(typed: &Typed, s: Sharing<'_>, notes: &mut Vec<Finding>) -
 }
 
 /// The variables and globals that the paths of a row name.
-fn names_in_row(program: &Moded, row: Targets<'_>, notes: &mut Vec<Finding>) -> Noted
+fn names_in_row(program: &Moded, row: Targets<'_>, notes: &mut Notes) -> Noting
     requires { row.first + row.count ≤ position_count program.now.typed }
     ensures { OnOk result (notes.new.items
         ≡ notes.old.items ++ names_in_all program.now.typed (modes_of program.now (view_row row.entry))) }
@@ -309,17 +292,12 @@ fn any_sibling(program: &Moded, row: Targets<'_>) -> bool
     false
 }
 
-fn sibling(
-    alloc: Global,
-    typed: &Typed,
-    span: Span,
-    base: Option<u32>,
-    notes: &mut Vec<Finding>,
-) -> Noted
+fn sibling(typed: &Typed, span: Span, base: Option<u32>, notes: &mut Notes) -> Noting
     ensures { OnOk result (notes.new.items ≡ notes.old.items ++ sibling_notes typed.now span base) }
 {
     match base {
         None => {
+            let alloc = *notes.allocator();
             let text = span_text(alloc, typed, span)?;
             notes.push(error(alloc, ErrorCode::NeedsConstantBase, span, text))?;
             Ok(())
@@ -330,19 +308,18 @@ fn sibling(
 
 /// M11: a field with these targets is used through the constant variable at this token, or otherwise.
 pub(crate) fn field(
-    alloc: Global,
     program: &Moded,
     span: Span,
     base: Option<u32>,
     targets: Targets<'_>,
-    notes: &mut Vec<Finding>,
-) -> Noted
+    notes: &mut Notes,
+) -> Noting
     requires { targets.first + targets.count ≤ position_count program.now.typed }
     ensures { OnOk result (notes.new.items
         ≡ notes.old.items ++ field_notes program.now.typed span base (modes_of program.now (view_row targets.entry))) }
 {
     if any_sibling(program, targets) {
-        sibling(alloc, program.typed(), span, base, notes)
+        sibling(program.typed(), span, base, notes)
     } else {
         Ok(())
     }
@@ -454,16 +431,11 @@ fn first_unmet<'a>(program: &'a Moded, passing: Passing<'a>) -> Option<Lock<'a>>
     None
 }
 
-fn said_unmet(
-    alloc: Global,
-    typed: &Typed,
-    span: Span,
-    lock: Option<Lock<'_>>,
-    notes: &mut Vec<Finding>,
-) -> Noted
+fn said_unmet(typed: &Typed, span: Span, lock: Option<Lock<'_>>, notes: &mut Notes) -> Noting
     ensures { OnOk result (notes.new.items ≡ notes.old.items ++ unmet_notes typed.now span (view_locks lock.entry)) }
 {
     if let Some(lock) = lock {
+        let alloc = *notes.allocator();
         let path = path_of(alloc, typed, lock)?;
         let text = path_text(alloc, &path)?;
         notes.push(error(alloc, ErrorCode::LockPathNotConstant, span, text))?;
@@ -475,8 +447,8 @@ fn name_read(
     typed: &Typed,
     reading: PathReading<'_>,
     level: &Option<Mode>,
-    notes: &mut Vec<Finding>,
-) -> Noted
+    notes: &mut Notes,
+) -> Noting
     ensures { OnOk result (notes.new.items
         ≡ notes.old.items ++ names_read typed.now (view_reading reading.entry) level.now) }
 {
@@ -491,8 +463,8 @@ fn names_read(
     typed: &Typed,
     reading: PathReading<'_>,
     levels: &[Option<Mode>],
-    notes: &mut Vec<Finding>,
-) -> Noted
+    notes: &mut Notes,
+) -> Noting
     ensures { OnOk result (notes.new.items
         ≡ notes.old.items ++ flat_map (names_read typed.now (view_reading reading.entry)) levels.now) }
 {
@@ -507,8 +479,8 @@ fn parameter_names(
     program: &Moded,
     passing: Passing<'_>,
     parameter: &Declaration,
-    notes: &mut Vec<Finding>,
-) -> Noted
+    notes: &mut Notes,
+) -> Noting
     ensures { OnOk result (notes.new.items ≡ notes.old.items ++ parameter_names program.now
         (at_call passing.entry.parameters.now (view_passed passing.entry.passed)) parameter.now) }
 {
@@ -520,7 +492,7 @@ fn parameter_names(
 }
 
 /// The variables and globals that the substituted paths name.
-fn names_at_call(program: &Moded, passing: Passing<'_>, notes: &mut Vec<Finding>) -> Noted
+fn names_at_call(program: &Moded, passing: Passing<'_>, notes: &mut Notes) -> Noting
     ensures { OnOk result (notes.new.items ≡ notes.old.items ++ names_at_call program.now passing.entry.parameters.now
         (view_passed passing.entry.passed) passing.entry.parameters.now) }
 {
@@ -531,23 +503,11 @@ fn names_at_call(program: &Moded, passing: Passing<'_>, notes: &mut Vec<Finding>
 }
 
 /// M4 of a call, and the variables and globals that its paths name.
-pub(crate) fn call(
-    alloc: Global,
-    program: &Moded,
-    span: Span,
-    passing: Passing<'_>,
-    notes: &mut Vec<Finding>,
-) -> Noted
+pub(crate) fn call(program: &Moded, span: Span, passing: Passing<'_>, notes: &mut Notes) -> Noting
     ensures { OnOk result (notes.new.items ≡ notes.old.items
         ++ call_notes program.now span passing.entry.parameters.now (view_passed passing.entry.passed)) }
 {
-    said_unmet(
-        alloc,
-        program.typed(),
-        span,
-        first_unmet(program, passing),
-        notes,
-    )?;
+    said_unmet(program.typed(), span, first_unmet(program, passing), notes)?;
     names_at_call(program, passing, notes)
 }
 

@@ -9,11 +9,10 @@ ghost use Rattle.sharc_reach.specs.Reaching.{AreReached};
 ghost use Rattle.sharc_check.specs.Threads.{function_notes, global_notes, touched_by};
 
 use crate::rule_laws::spawned_are_told;
-use crate::rules::{Noted, error};
+use crate::rules::{Notes, Noting, error};
 use crate::types::is_private_level;
 use sharc_mode::cell::pointed;
 use sharc_mode::error::ErrorCode;
-use sharc_mode::finding::Finding;
 use sharc_mode::moded::Moded;
 use sharc_mode::row::{PathReading, declared_row};
 use sharc_mode::sharing::is_private;
@@ -22,7 +21,7 @@ use sharc_reach::Reached;
 use sharc_tree::ctype::Mode;
 use sharc_tree::name::Name;
 use sharc_tree::tree::{Declaration, FunctionDefinition, GlobalDefinition};
-use std::alloc::{AllocError, Global};
+use std::alloc::AllocError;
 
 /// Whether what a declared parameter refers to is private.
 fn has_private_target(program: &Moded, token: u32) -> bool
@@ -35,49 +34,38 @@ fn has_private_target(program: &Moded, token: u32) -> bool
 }
 
 /// Says what is to be said of a parameter of the spawned function of that name.
-fn parameter(
-    alloc: Global,
-    program: &Moded,
-    name: &Name,
-    of: &Declaration,
-    notes: &mut Vec<Finding>,
-) -> Noted
+fn parameter(program: &Moded, name: &Name, of: &Declaration, notes: &mut Notes) -> Noting
     ensures { OnOk result (notes.new.items ≡ notes.old.items ++ parameter_notes program.now name.now of.now) }
 {
     if has_private_target(program, of.name.site.token) {
+        let alloc = *notes.allocator();
+        let name = name.copy(alloc)?;
         notes.push(error(
             alloc,
             ErrorCode::PrivateReachesThread,
             of.written.span,
-            name.copy(alloc)?,
+            name,
         ))?;
     }
     Ok(())
 }
 
-fn parameters(
-    alloc: Global,
-    program: &Moded,
-    name: &Name,
-    all: &[Declaration],
-    notes: &mut Vec<Finding>,
-) -> Noted
+fn parameters(program: &Moded, name: &Name, all: &[Declaration], notes: &mut Notes) -> Noting
     ensures { OnOk result (notes.new.items
         ≡ notes.old.items ++ flat_map (parameter_notes program.now name.now) all.now) }
 {
     for of in all {
-        parameter(alloc, program, name, of, notes)?;
+        parameter(program, name, of, notes)?;
     }
     Ok(())
 }
 
 fn function(
-    alloc: Global,
     program: &Moded,
     spawned: bool,
     of: Option<&FunctionDefinition>,
-    notes: &mut Vec<Finding>,
-) -> Noted
+    notes: &mut Notes,
+) -> Noting
     ensures { OnOk result (notes.new.items
         ≡ notes.old.items ++ function_notes program.now spawned (option_map (λ f. view_function f.now) of.entry)) }
 {
@@ -85,13 +73,7 @@ fn function(
         None => Ok(()),
         Some(of) => {
             if spawned {
-                parameters(
-                    alloc,
-                    program,
-                    &of.name.text,
-                    of.parameters.as_slice(),
-                    notes,
-                )
+                parameters(program, &of.name.text, of.parameters.as_slice(), notes)
             } else {
                 Ok(())
             }
@@ -100,12 +82,7 @@ fn function(
 }
 
 /// Says what is to be said of the functions that are spawned.
-pub(crate) fn spawned(
-    alloc: Global,
-    program: &Moded,
-    reached: &Reached,
-    notes: &mut Vec<Finding>,
-) -> Noted
+pub(crate) fn spawned(program: &Moded, reached: &Reached, notes: &mut Notes) -> Noting
     requires { AreReached program.now.typed reached.now }
     ensures { OnOk result (notes.new.items
         ≡ notes.old.items ++ spawned_notes program.now 0 (functions_in program.now.typed.program.items)) }
@@ -117,23 +94,12 @@ pub(crate) fn spawned(
         return Err(AllocError);
     }
     for n in 0..count as u32 {
-        function(
-            alloc,
-            program,
-            reached.spawned(n),
-            typed.function_at(n),
-            notes,
-        )?;
+        function(program, reached.spawned(n), typed.function_at(n), notes)?;
     }
     Ok(())
 }
 
-fn global(
-    alloc: Global,
-    touched: bool,
-    of: Option<&GlobalDefinition>,
-    notes: &mut Vec<Finding>,
-) -> Noted
+fn global(touched: bool, of: Option<&GlobalDefinition>, notes: &mut Notes) -> Noting
     ensures { OnOk result (notes.new.items ≡ notes.old.items ++ global_notes touched (option_copied of.entry)) }
 {
     match of {
@@ -141,6 +107,7 @@ fn global(
         Some(of) => {
             let written = &of.declaration.written;
             if touched && begins_private(written.ctype.levels.as_slice()) {
+                let alloc = *notes.allocator();
                 let name = of.declaration.name.text.copy(alloc)?;
                 notes.push(error(alloc, ErrorCode::PrivateReachesThread, written.span, name))?;
             }
@@ -160,12 +127,7 @@ fn begins_private(levels: &[Option<Mode>]) -> bool
 }
 
 /// Says what is to be said of the globals that are touched.
-pub(crate) fn touched(
-    alloc: Global,
-    program: &Moded,
-    reached: &Reached,
-    notes: &mut Vec<Finding>,
-) -> Noted
+pub(crate) fn touched(program: &Moded, reached: &Reached, notes: &mut Notes) -> Noting
     requires { length reached.now.firsts ≡ length (globals_in program.now.typed.program.items) }
     ensures { OnOk result (notes.new.items
         ≡ notes.old.items ++ touched_notes (touched_by reached.now) 0 (globals_in program.now.typed.program.items)) }
@@ -176,12 +138,7 @@ pub(crate) fn touched(
         return Err(AllocError);
     }
     for n in 0..count as u32 {
-        global(
-            alloc,
-            reached.touched(n).is_some(),
-            typed.global_at(n),
-            notes,
-        )?;
+        global(reached.touched(n).is_some(), typed.global_at(n), notes)?;
     }
     Ok(())
 }

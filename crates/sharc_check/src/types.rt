@@ -8,12 +8,11 @@ ghost use Rattle.sharc_mode.specs.{Notes.type_notes, WellFormed.{place_of, holds
 ghost use Rattle.sharc_mode.specs.WellFormed.{first_unfit_mode};
 ghost use Rattle.sharc_check.specs.Levels.{is_shared_top, holds_below};
 
-use crate::rules::{Noted, error, mismatch, name_in};
+use crate::rules::{Notes, Noting, error, mismatch, name_in};
 use sharc_ctype::entity::Numbered;
 use sharc_ctype::typed::Typed;
 use sharc_mode::cell::top_of;
 use sharc_mode::error::ErrorCode;
-use sharc_mode::finding::Finding;
 use sharc_mode::moded::Moded;
 use sharc_mode::place::Place;
 use sharc_mode::sharing::sharing_of;
@@ -23,7 +22,6 @@ use sharc_mode::types::{first_unfit_mode, first_unfit_path, is_private_mode};
 use sharc_names::types::Role;
 use sharc_tree::ctype::Mode;
 use sharc_tree::name::Name;
-use std::alloc::Global;
 
 /// Where the type of such an entity is written.
 fn place_of(role: Role) -> Place
@@ -69,11 +67,12 @@ fn holds_private(program: &Moded, numbered: &Numbered) -> bool
 }
 
 /// M3
-fn private(alloc: Global, program: &Moded, numbered: &Numbered, notes: &mut Vec<Finding>) -> Noted
+fn private(program: &Moded, numbered: &Numbered, notes: &mut Notes) -> Noting
     requires { numbered.now.first + positions_of numbered.now.entity ≤ position_count program.now.typed }
     ensures { OnOk result (notes.new.items ≡ notes.old.items ++ private_notes program.now numbered.now) }
 {
     if holds_private(program, numbered) {
+        let alloc = *notes.allocator();
         let expected = printed_type(alloc, program, numbered)?;
         let found = printed_type(alloc, program, numbered)?;
         let span = numbered.entity.written.span;
@@ -83,7 +82,7 @@ fn private(alloc: Global, program: &Moded, numbered: &Numbered, notes: &mut Vec<
 }
 
 /// M4
-fn path(alloc: Global, typed: &Typed, numbered: &Numbered, notes: &mut Vec<Finding>) -> Noted
+fn path(typed: &Typed, numbered: &Numbered, notes: &mut Notes) -> Noting
     ensures { OnOk result (notes.new.items ≡ notes.old.items
         ++ path_notes numbered.now.entity.written.span (first_unfit_path typed.now (place_of numbered.now.entity.role)
         numbered.now.entity.written.ctype.base numbered.now.entity.written.ctype.levels)) }
@@ -94,6 +93,7 @@ fn path(alloc: Global, typed: &Typed, numbered: &Numbered, notes: &mut Vec<Findi
     match first_unfit_path(typed, place, &written.ctype.base, levels) {
         None => Ok(()),
         Some(path) => {
+            let alloc = *notes.allocator();
             let text = path_text(alloc, path)?;
             notes.push(error(alloc, ErrorCode::LockPathNotConstant, written.span, text))?;
             Ok(())
@@ -102,7 +102,7 @@ fn path(alloc: Global, typed: &Typed, numbered: &Numbered, notes: &mut Vec<Findi
 }
 
 /// M5
-fn mode(alloc: Global, numbered: &Numbered, notes: &mut Vec<Finding>) -> Noted
+fn mode(numbered: &Numbered, notes: &mut Notes) -> Noting
     ensures { OnOk result (notes.new.items ≡ notes.old.items
         ++ mode_notes numbered.now.entity.written.span (first_unfit_mode (place_of numbered.now.entity.role)
         numbered.now.entity.written.ctype.base numbered.now.entity.written.ctype.levels)) }
@@ -113,6 +113,7 @@ fn mode(alloc: Global, numbered: &Numbered, notes: &mut Vec<Finding>) -> Noted
     match first_unfit_mode(place, &written.ctype.base, levels) {
         None => Ok(()),
         Some(mode) => {
+            let alloc = *notes.allocator();
             let text = mode_text(alloc, mode)?;
             notes.push(error(alloc, ErrorCode::ModeNotAllowed, written.span, text))?;
             Ok(())
@@ -151,23 +152,19 @@ fn is_field(role: Role) -> bool
 }
 
 /// M6
-fn private_field(
-    alloc: Global,
-    typed: &Typed,
-    numbered: &Numbered,
-    notes: &mut Vec<Finding>,
-) -> Noted
+fn private_field(typed: &Typed, numbered: &Numbered, notes: &mut Notes) -> Noting
     ensures { OnOk result (notes.new.items ≡ notes.old.items ++ private_field_notes typed.now numbered.now) }
 {
     let entity = &numbered.entity;
     if is_field(entity.role) && any_private(entity.written.ctype.levels.as_slice()) {
+        let alloc = *notes.allocator();
         let name = Name::from_slice(alloc, text_at(typed, entity.token))?;
         notes.push(error(alloc, ErrorCode::PrivateField, entity.written.span, name))?;
     }
     Ok(())
 }
 
-fn name_in_level(typed: &Typed, level: &Option<Mode>, notes: &mut Vec<Finding>) -> Noted
+fn name_in_level(typed: &Typed, level: &Option<Mode>, notes: &mut Notes) -> Noting
     ensures { OnOk result (notes.new.items ≡ notes.old.items ++ names_in_level typed.now level.now) }
 {
     match level {
@@ -177,7 +174,7 @@ fn name_in_level(typed: &Typed, level: &Option<Mode>, notes: &mut Vec<Finding>) 
 }
 
 /// The variables and globals that the paths of a type name.
-fn names(typed: &Typed, levels: &[Option<Mode>], notes: &mut Vec<Finding>) -> Noted
+fn names(typed: &Typed, levels: &[Option<Mode>], notes: &mut Notes) -> Noting
     ensures { OnOk result (notes.new.items ≡ notes.old.items ++ flat_map (names_in_level typed.now) levels.now) }
 {
     for level in levels {
@@ -187,15 +184,15 @@ fn names(typed: &Typed, levels: &[Option<Mode>], notes: &mut Vec<Finding>) -> No
 }
 
 /// Says what is to be said of the type of an entity.
-fn type_said(alloc: Global, program: &Moded, numbered: &Numbered, notes: &mut Vec<Finding>) -> Noted
+fn type_said(program: &Moded, numbered: &Numbered, notes: &mut Notes) -> Noting
     requires { numbered.now.first + positions_of numbered.now.entity ≤ position_count program.now.typed }
     ensures { OnOk result (notes.new.items ≡ notes.old.items ++ type_notes program.now numbered.now) }
 {
     let typed = program.typed();
-    private(alloc, program, numbered, notes)?;
-    path(alloc, typed, numbered, notes)?;
-    mode(alloc, numbered, notes)?;
-    private_field(alloc, typed, numbered, notes)?;
+    private(program, numbered, notes)?;
+    path(typed, numbered, notes)?;
+    mode(numbered, notes)?;
+    private_field(typed, numbered, notes)?;
     names(
         typed,
         numbered.entity.written.ctype.levels.as_slice(),
@@ -204,13 +201,13 @@ fn type_said(alloc: Global, program: &Moded, numbered: &Numbered, notes: &mut Ve
 }
 
 /// Says what is to be said of all types.
-pub(crate) fn types(alloc: Global, program: &Moded, notes: &mut Vec<Finding>) -> Noted
+pub(crate) fn types(program: &Moded, notes: &mut Notes) -> Noting
     ensures { OnOk result (notes.new.items ≡ notes.old.items
         ++ flat_map (type_notes program.now) (numbered (entities_in program.now.typed.program.items))) }
 {
     let typed = program.typed();
     for numbered in typed.entities() {
-        type_said(alloc, program, numbered, notes)?;
+        type_said(program, numbered, notes)?;
     }
     Ok(())
 }

@@ -28,22 +28,22 @@ module _ (flat : Flat) (owner : ℕ → ℕ) (f : ℕ) (m : Assignment) where
   abbrev W : Slots → List Op → Slots → Type 0
   W = P flat owner g f D
 
-  joined : (a b d : ℕ) (xs ys : List Op) → Q a xs b → Q b ys d → Q a (xs ++ ys) d
+  pub joined : (a b d : ℕ) (xs ys : List Op) → Q a xs b → Q b ys d → Q a (xs ++ ys) d
   joined a b d xs ys p q = then_do flat owner g f D (below a) (below b) (below d) xs ys p q
 
-  longer : (a b d : ℕ) (os : List Op) → b ≤ d → Q a os b → Q a os d
+  pub longer : (a b d : ℕ) (os : List Op) → b ≤ d → Q a os b → Q a os d
   longer a b d os le p = post flat owner g f D (below a) os b d le p
 
   lower : (a b d : ℕ) (os : List Op) → a ≤ b → Q b os d → Q a os d
   lower a b d os le p = pre flat owner g f D a b os (below d) le p
 
-  enters : (a b : ℕ) (os : List Op) → Q a os b → Q a (Op.Enter ∷ os) b
+  pub enters : (a b : ℕ) (os : List Op) → Q a os b → Q a (Op.Enter ∷ os) b
   enters a b os p = enter flat owner g f D (below a) os (below b) p
 
-  one : (a : ℕ) (o : Op) → ((table : ℕ → Slots) (pc : ℕ) → Enters flat owner g table f (below a) (pc + 1) → Level flat owner g table pc f (below a) o) → Q a (o ∷ []) a
+  pub one : (a : ℕ) (o : Op) → ((table : ℕ → Slots) (pc : ℕ) → Enters flat owner g table f (below a) (pc + 1) → Level flat owner g table pc f (below a) o) → Q a (o ∷ []) a
   one a o l = keeps flat owner g f D (below a) o l
 
-  nothing_at : (a b : ℕ) → a ≤ b → Q a [] b
+  pub nothing_at : (a b : ℕ) → a ≤ b → Q a [] b
   nothing_at a b le = none flat owner g f D a b le
 
   truth_of : (b : Bool) (i r : ℕ) → Q (r + width b) (truth_code b i r) r

@@ -2,7 +2,6 @@
 use Rattle.sharc_compile_laws.proofs.{Imports.{◌≡◌, ⊎_elim, ℕ, ◌+◌, ◌<◌, ◌≤◌, ◌==◌, ◌&&◌, ◌||◌, eqb-true, Bool, true, false, cond, List, [], ◌∷◌, ◌++◌, length, refl, ap, ◌∙◌, subst, arith, length-append, append_assoc, Option, Some, None, codes, bytes_eq, false≢true, cases_eq, Base, Site, BinaryOperator, NotEqual, ValueCall, Join, Print, Arguments, Kind, object, long, is_long, is_integral, is_integer, promoted, common, Use, Cell, Register, Int, Reference, Sharing, is_reference, Op, Spot, IsWide, Flat, Lvalue, Context, slot_kind, ref_count, register_of, number_in, at_site, Target, variable, in_global, in_global_at, in_object, in_object_at, width_of, has_base, base_width, cell_of, guard_field, guard_code, drop_base, settle_base, copy_code, cell_value_code, value_code, settle_code, cell_store_code, store_code, cell_take_code, take_code, bounds_code, pointee_code, width_code, drop_code, truth_code, differ_code, compare_code, logical_code, either_code, wait_code, condition_code, with_words, argument_words, spawn_code, value_call_code, unlocked_code, passed_code, first_cell_of, is_cell, free, full, Slots, with_slot, with_moved, cell_slot, Enters, Level}, Located.{IsIn, located, width}, Pieces.{held, step}, Slots.{AreFit, fit_same, fit_through, below, below_free, fit_below, none_cleared, with_same, with_other, below_more, popped, pushed, settled, taken}}
 use Rattle.sharc_flat_lemmas.proofs.Flow as flow
 use Rattle.sharc_names.specs.Kinds.{int}
-use Rattle.sharc_names.specs.Kinds as kinds
 
 -- ---- kinds
 plain_by : (b : Base) (n : ℕ) → is_integer (object b n) ≡ true → is_reference (object b n) ≡ false

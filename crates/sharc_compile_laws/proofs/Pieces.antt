@@ -1,5 +1,5 @@
 -- Pieces of flat code with what the registers hold at each of their lines.
-use Rattle.sharc_compile_laws.proofs.{Imports.{◌≡◌, ℕ, ◌+◌, ◌<◌, Bool, List, [], ◌∷◌, ◌++◌, length, Op, Flat, Knowledge, free, Slots, with_slot, Enters, Level}, Slots.{AreFit, fit_same, fit_through}}
+use Rattle.sharc_compile_laws.proofs.{Imports.{◌≡◌, ℕ, ◌+◌, ◌<◌, Bool, List, [], ◌∷◌, ◌++◌, length, Op, Flat, Knowledge, free, Slots, with_slot, Enters, Level, Option, Some, Expression, Context, body_at, turn_code, turns_code, test_code}, Slots.{AreFit, fit_same, fit_through}, Looping.loop}
 use Rattle.sharc_flat_lemmas.proofs.Flow as flow
 
 module _ (flat : Flat) (owner : ℕ → ℕ) (gives : ℕ → Bool) (f : ℕ) where
@@ -36,8 +36,7 @@ module _ (flat : Flat) (owner : ℕ → ℕ) (gives : ℕ → Bool) (f : ℕ) wh
   pub step : (D : (ℕ → Slots) → Type 0) (s : Slots) (pc : ℕ) (o : Op) (t e : Slots) → AreFit t e → ((table : ℕ → Slots) → Enters flat owner gives table f t (pc + 1) → Level flat owner gives table pc f s o) → flow.Piece held D s pc (o ∷ []) e
   step D s pc o t e h l = flow.step held D s pc o t e h (λ table n. l table (there table t (pc + 1) n))
 
-  pub looped : (D E : (ℕ → Slots) → Type 0) (n : Slots) (pc : ℕ) (T B S : List Op) (out : ℕ)
-      → ((table : ℕ → Slots) → D table → Enters flat owner gives table f n (pc + 1) → Enters flat owner gives table f n (pc + 2) → Enters flat owner gives table f n (pc + 3) → E table) → out ≡ length T + length B + length S + 1 → flow.Inner held E n (pc + 3) T B S
-      → flow.Piece held D n pc (Op.Skip 2 ∷ Op.Skip out ∷ Op.Skip (length T + length B) ∷ (T ++ (B ++ S))) n
-  looped D E n pc T B S out into =
-      flow.looped held D E n pc T B S out tt (λ table d a b c. into table d (there table n (pc + 1) a) (there table n (pc + 2) b) (there table n (pc + 3) c))
+  pub looped : (D E : (ℕ → Slots) → Type 0) (n : Slots) (c : Context) (pc : ℕ) (step code : List Op) → ((q : ℕ) → flow.Piece held E n q (step ++ Op.Jump (pc + 3) ∷ []) n)
+      → ((table : ℕ → Slots) → D table → Enters flat owner gives table f n (pc + 1) → Enters flat owner gives table f n (pc + 2) → Enters flat owner gives table f n (pc + 3) → E table) → (e : Option Expression)
+      → ((x : Expression) → e ≡ Some x → flow.Piece held E n (pc + 3) (test_code c x) n) → flow.Piece held E n (body_at pc (turn_code c e)) code n → flow.Piece held D n pc (turns_code pc step (turn_code c e (length code + length step + 1)) code) n
+  looped D E n c pc step code back into = loop held D E n tt c pc step code back (λ table d a b c. into table d (there table n (pc + 1) a) (there table n (pc + 2) b) (there table n (pc + 3) c))

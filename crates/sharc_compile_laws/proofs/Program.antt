@@ -1,5 +1,5 @@
 -- The functions of a program one after the other: what registers hold at each line of all of them.
-use Rattle.sharc_compile_laws.proofs.{Imports.{◌≡◌, ℕ, ◌+◌, ◌-◌, ◌<◌, ◌≤◌, Bool, true, false, cond, List, [], ◌∷◌, ◌++◌, length, map, refl, ap, sym, ◌∙◌, subst, arith, length-append, append_assoc, Some, false≢true, slice_get, slice_index_or, Declaration, Function, is_pointer, declared_kind, GlobalCells, Parameter, function_at, functions_in, result_kind_of, Assignment, is_reference, Op, Flat, function_of, Context, slot_of, ref_count, at_site, ends_from, zero_code, behind_statements, statements_code, in_function, around_body, function_code, parameter_of, refs_of, StatementsSuit, agrees_all, Agrees, free, full, Fits, Slots, Level, Takes, FlattenedIsLevel, inside_list}, Expressing.{Entries, gives_reference}, Located.{width, declared_reference}, Pieces.{IsOwn, Needs, held}, Slots.{AreFit, below, below_full}, Stating.{IsAround, L, S, ends_at, then_at, entered, lift, longer, zeros, result_alone, all_statements}}
+use Rattle.sharc_compile_laws.proofs.{Imports.{◌≡◌, ℕ, ◌+◌, ◌<◌, ◌≤◌, Bool, true, false, cond, List, [], ◌∷◌, ◌++◌, length, map, refl, ap, sym, ◌∙◌, subst, arith, length-append, append_assoc, Some, false≢true, slice_get, slice_index_or, Declaration, Function, is_pointer, declared_kind, GlobalCells, Parameter, function_at, functions_in, result_kind_of, Assignment, is_reference, Op, Flat, function_of, Context, slot_of, ref_count, at_site, ends_from, zero_code, behind_statements, statements_code, in_function, around_body, function_code, parameter_of, refs_of, StatementsSuit, agrees_all, Agrees, free, full, Fits, Slots, Level, Takes, FlattenedIsLevel, inside_list}, Expressing.{Entries, gives_reference, longer}, Located.{width, declared_reference}, Pieces.{IsOwn, Needs, held}, Slots.{AreFit, below, below_full}, Stating.{IsAround, L, S, ends_at, then_at, entered, lift, zeros, result_alone, all_statements}}
 use Rattle.sharc_flat_lemmas.proofs.Functions.{begin_of, is_there, owner_of, row_of, rows_as_many, whole}
 use Rattle.sharc_flat_lemmas.proofs.Flow as flow
 use Rattle.sharc_lemmas.proofs.Lists.{some_there}

@@ -1,5 +1,5 @@
 -- The code of a statement: what variables hold is held before it and after it, and nothing else.
-use Rattle.sharc_compile_laws.proofs.{Imports.{◌≡◌, inl, inr, ⊎_elim, ℕ, ◌+◌, ◌<◌, ◌≤◌, Bool, true, false, List, [], ◌∷◌, ◌++◌, length, take, refl, ap, sym, ◌∙◌, subst, arith, length-append, append_assoc, Option, Some, None, false≢true, cases_eq, append-nil, take-append-le, take_all, take_at, Site, Declaration, Jump, Break, Continue, span_of, Expression, Right, value, malloc, Simple, assign, does_call, Local, First, nothing, declares, does, Statement, empty, block, declare, simple, jump, return, if_then, if_then_else, while, for, Statements, no_statements, statement, Kind, declared_kind, pointed, Assignment, written, row_at, declared_row, Sharing, is_reference, Op, Flat, Lvalue, Slot, Context, slot_of, ref_count, at_site, ends_from, leaves, Target, variable, base_width, index_width, store_code, width_code, kind_of, is_ref, target_of, mode_of, guard_of, lvalue_in, expression_code, place_code, elements_code, right_code, simple_code, with_variable, ints_of, refs_of, zero_code, initial_code, local_code, first_code, behind_first, step_code, test_code, turn_code, Around, opened, looping, jump_code, result_code, return_code, body_at, turns_code, behind_statement, behind_statements, statement_code, statements_code, Suits, Goes, CountSuits, RightSuits, LeftSuits, SimpleSuits, InitialSuits, FirstSuits, TestSuits, IfThere, StatementSuits, StatementsSuit, is_declaration, in_first, in_statement, free, full, Fits, Slots, with_slot, with_moved, result_slot, Enters, Leaves, Level}, Expressing.{Entries, gives_reference, expressions, places}, Leaving.{kept, leaves_to, ends}, Located.{width, one_more, declared_reference}, Parts.{plain_integer, B, then_do, pre, post, none, does as does_one, keeps, enter, null_at, widths_kept, truths, drops, cells_stored, variable_stored}, Pieces.{held, looped}, Slots.{AreFit, fits_full, fits_free, fit_same, below, below_full, below_free, fit_below, none_cleared, with_same, with_other, pushed}}
+use Rattle.sharc_compile_laws.proofs.{Imports.{◌≡◌, inl, inr, ⊎_elim, ℕ, ◌+◌, ◌<◌, ◌≤◌, Bool, true, false, List, [], ◌∷◌, ◌++◌, length, take, refl, ap, sym, ◌∙◌, subst, arith, length-append, append_assoc, Option, Some, None, false≢true, cases_eq, append-nil, take-append-le, take_all, take_at, Site, Declaration, Jump, Break, Continue, span_of, Expression, Right, value, malloc, Simple, assign, does_call, Local, First, nothing, declares, does, Statement, empty, block, declare, simple, jump, return, if_then, if_then_else, while, for, Statements, no_statements, statement, Kind, declared_kind, pointed, Assignment, written, row_at, declared_row, Sharing, is_reference, Op, Flat, Lvalue, Slot, Context, slot_of, ref_count, at_site, ends_from, leaves, Target, variable, base_width, index_width, store_code, width_code, kind_of, is_ref, target_of, mode_of, guard_of, lvalue_in, expression_code, place_code, elements_code, right_code, simple_code, with_variable, ints_of, refs_of, zero_code, initial_code, local_code, first_code, behind_first, step_code, test_code, turn_code, Around, opened, looping, jump_code, result_code, return_code, body_at, turns_code, behind_statement, behind_statements, statement_code, statements_code, Suits, Goes, CountSuits, RightSuits, LeftSuits, SimpleSuits, InitialSuits, FirstSuits, TestSuits, IfThere, StatementSuits, StatementsSuit, is_declaration, in_first, in_statement, free, full, Fits, Slots, with_slot, with_moved, result_slot, Enters, Leaves}, Expressing.{Entries, gives_reference, joined, longer, enters, one, nothing_at, expressions, places}, Leaving.{kept, leaves_to, ends}, Located.{width, one_more, declared_reference}, Parts.{plain_integer, B, does as does_one, keeps, null_at, widths_kept, truths, drops, cells_stored, variable_stored}, Pieces.{held, looped}, Slots.{fits_full, fits_free, fit_same, below, below_full, below_free, fit_below, none_cleared, with_same, with_other, pushed}, Looping.test_length}
 use Rattle.sharc_flat_lemmas.proofs.Flow as flow
 
 -- ---- scopes
@@ -102,49 +102,31 @@ module _ (flat : Flat) (owner : ℕ → ℕ) (f : ℕ) (m : Assignment) where
   abbrev pub Q : ℕ → List Op → ℕ → Type 0
   Q = B flat owner g f E
 
-  joined : (a b d : ℕ) (xs ys : List Op) → Q a xs b → Q b ys d → Q a (xs ++ ys) d
-  joined a b d xs ys p q = then_do flat owner g f E (below a) (below b) (below d) xs ys p q
-
-  pub longer : (a b d : ℕ) (os : List Op) → b ≤ d → Q a os b → Q a os d
-  longer a b d os le p = post flat owner g f E (below a) os b d le p
-
-  lower : (a b d : ℕ) (os : List Op) → a ≤ b → Q b os d → Q a os d
-  lower a b d os le p = pre flat owner g f E a b os (below d) le p
-
-  enters : (a b : ℕ) (os : List Op) → Q a os b → Q a (Op.Enter ∷ os) b
-  enters a b os p = enter flat owner g f E (below a) os (below b) p
-
-  one : (a : ℕ) (o : Op) → ((table : ℕ → Slots) (pc : ℕ) → Enters flat owner g table f (below a) (pc + 1) → Level flat owner g table pc f (below a) o) → Q a (o ∷ []) a
-  one a o l = keeps flat owner g f E (below a) o l
-
-  nothing_at : (a b : ℕ) → a ≤ b → Q a [] b
-  nothing_at a b le = none flat owner g f E a b le
-
   same_width : (a : ℕ) (os : List Op) (x y : Bool) → x ≡ y → (b : ℕ) → Q a os (b + width x) → Q a os (b + width y)
   same_width a os x y e b p = subst (λ z. Q a os (b + width z)) e p
 
   -- ---- what is assigned
   counts : (c : Context) → c.program ≡ m → (i r : ℕ) → ref_count c.scope ≤ r → (n : Option Expression) → CountSuits c n → Q r (elements_code c i r n) r
-  counts c same i r le None h = one r (Op.Constant i _) (λ table pc z. z)
-  counts c same i r le (Some n) h = let z = ap width (plain_integer (kind_of c n) h.1) in longer r (r + width (is_ref c n)) r (expression_code c i r n) (omega (arith, z)) (expressions flat owner f m c same i r le n h.0)
+  counts c same i r le None h = one flat owner f m r (Op.Constant i _) (λ table pc z. z)
+  counts c same i r le (Some n) h = let z = ap width (plain_integer (kind_of c n) h.1) in longer flat owner f m r (r + width (is_ref c n)) r (expression_code c i r n) (omega (arith, z)) (expressions flat owner f m c same i r le n h.0)
 
   rights : (c : Context) → c.program ≡ m → (i r : ℕ) → ref_count c.scope ≤ r → (kind : Kind) (mode : Sharing) (x : Right) → RightSuits c kind mode x → Q r (right_code c i r kind mode x) (r + width (is_reference kind))
   rights c same i r le kind mode (value e) h =
       let to = r + width (is_reference kind) in
-      joined r to to (expression_code c i r e) (width_code i kind (span_of e).first) (same_width r (expression_code c i r e) (is_ref c e) (is_reference kind) h.1.0 r (expressions flat owner f m c same i r le e h.0))
+      joined flat owner f m r to to (expression_code c i r e) (width_code i kind (span_of e).first) (same_width r (expression_code c i r e) (is_ref c e) (is_reference kind) h.1.0 r (expressions flat owner f m c same i r le e h.0))
       (widths_kept flat owner g f E (below to) i kind (span_of e).first)
   rights c same i r le kind mode (malloc s n w) h =
       let z = ap width h.0 in
-      enters r (r + width (is_reference kind)) _
-      (joined r r (r + width (is_reference kind)) (elements_code c i r n) _ (counts c same i r le n h.2)
-      (joined r r (r + width (is_reference kind)) (Op.ChkPositive i _ ∷ []) (Op.New r i _ _ ∷ []) (one r (Op.ChkPositive i _) (λ table pc z. z))
-      (longer r (r + 1) (r + width (is_reference kind)) (Op.New r i _ _ ∷ []) (omega (arith, z))
+      enters flat owner f m r (r + width (is_reference kind)) _
+      (joined flat owner f m r r (r + width (is_reference kind)) (elements_code c i r n) _ (counts c same i r le n h.2)
+      (joined flat owner f m r r (r + width (is_reference kind)) (Op.ChkPositive i _ ∷ []) (Op.New r i _ _ ∷ []) (one flat owner f m r (Op.ChkPositive i _) (λ table pc z. z))
+      (longer flat owner f m r (r + 1) (r + width (is_reference kind)) (Op.New r i _ _ ∷ []) (omega (arith, z))
       (does_one flat owner g f E (below r) (Op.New r i _ _) (with_slot (below r) r full) (below (r + 1)) (pushed r full) (λ table pc n. (below_free r r (omega arith), n))))))
 
   stored : (c : Context) (i r vi : ℕ) → ref_count c.scope ≤ r → (site : Site) (lvalue : Lvalue) (mode mode2 : Sharing) (kind : Kind) (t : Target) → LeftSuits c kind mode2 t
       → Q (r + base_width t + width (is_reference kind)) (store_code c i r vi (r + base_width t) site lvalue mode (is_reference kind) t) r
   stored c i r vi le site lvalue mode mode2 kind (variable x) h =
-      longer (r + 0 + width (is_reference kind)) (r + 0) r _ (omega arith) (variable_stored flat owner g f E c vi (r + 0) (is_reference kind) x h (omega (arith, le)))
+      longer flat owner f m (r + 0 + width (is_reference kind)) (r + 0) r _ (omega arith) (variable_stored flat owner g f E c vi (r + 0) (is_reference kind) x h (omega (arith, le)))
   stored c i r vi le site lvalue mode mode2 kind k h = cells_stored flat owner g f E c i r vi site lvalue mode (is_reference kind) k refl
 
   simples : (c : Context) → c.program ≡ m → (i r : ℕ) → ref_count c.scope ≤ r → (x : Simple) → SimpleSuits c x → Q r (simple_code c i r x) r
@@ -152,23 +134,23 @@ module _ (flat : Flat) (owner : ℕ → ℕ) (f : ℕ) (m : Assignment) where
       let t = target_of c u in
       let w = r + base_width t in
       let to = w + width (is_ref c u) in
-      joined r w r (place_code c i r (span_of u).first None (guard_of c u) u) _ (places flat owner f m c same i r le (span_of u).first None (guard_of c u) u h.0)
-      (joined w to r (right_code c (i + index_width t (guard_of c u)) w (kind_of c u) (pointed c.program (row_at c.program.typed u)) x) _
+      joined flat owner f m r w r (place_code c i r (span_of u).first None (guard_of c u) u) _ (places flat owner f m c same i r le (span_of u).first None (guard_of c u) u h.0)
+      (joined flat owner f m w to r (right_code c (i + index_width t (guard_of c u)) w (kind_of c u) (pointed c.program (row_at c.program.typed u)) x) _
       (rights c same (i + index_width t (guard_of c u)) w (omega (arith, le)) (kind_of c u) (pointed c.program (row_at c.program.typed u)) x h.2)
       (stored c i r (i + index_width t (guard_of c u)) le (span_of u).first (lvalue_in c u) (mode_of c u) _ (kind_of c u) t h.1))
-  simples c same i r le (does_call e) h = joined r (r + width (is_ref c e)) r (expression_code c i r e) _ (expressions flat owner f m c same i r le e h) (drops flat owner g f E (is_ref c e) r)
+  simples c same i r le (does_call e) h = joined flat owner f m r (r + width (is_ref c e)) r (expression_code c i r e) _ (expressions flat owner f m c same i r le e h) (drops flat owner g f E (is_ref c e) r)
 
   pub zeros : (b : Bool) (i r : ℕ) → Q r (zero_code b i r) (r + width b)
   zeros true i r = null_at flat owner g f E r
-  zeros false i r = longer r r (r + 0) (Op.Constant i _ ∷ []) (omega arith) (one r (Op.Constant i _) (λ table pc n. n))
+  zeros false i r = longer flat owner f m r r (r + 0) (Op.Constant i _ ∷ []) (omega arith) (one flat owner f m r (Op.Constant i _) (λ table pc n. n))
 
   initials : (c : Context) → c.program ≡ m → (d : Declaration) (x : Option Right) → InitialSuits c d x → Q (refs_of (with_variable c d)) (initial_code (with_variable c d) d x) (refs_of (with_variable c d))
-  initials c same d None h = nothing_at (refs_of (with_variable c d)) (refs_of (with_variable c d)) (omega arith)
+  initials c same d None h = nothing_at flat owner f m (refs_of (with_variable c d)) (refs_of (with_variable c d)) (omega arith)
   initials c same d (Some x) h =
       let c2 = with_variable c d in
       let r = refs_of c2 in
       let b = is_reference (declared_kind d.written) in
-      joined r (r + width b) r (right_code c2 (ints_of c2) r (declared_kind d.written) (pointed c2.program (Some (declared_row c2.program.typed written d.name.site.token))) x) _
+      joined flat owner f m r (r + width b) r (right_code c2 (ints_of c2) r (declared_kind d.written) (pointed c2.program (Some (declared_row c2.program.typed written d.name.site.token))) x) _
       (rights c2 same (ints_of c2) r (omega arith) (declared_kind d.written) (pointed c2.program (Some (declared_row c2.program.typed written d.name.site.token))) x h.0)
       (variable_stored flat owner g f E c2 (ints_of c2) r b d.name.site.token h.1 (omega arith))
 
@@ -177,21 +159,21 @@ module _ (flat : Flat) (owner : ℕ → ℕ) (f : ℕ) (m : Assignment) where
       let b = is_reference (declared_kind l.declaration.written) in
       let z = refs_more c l.declaration in
       let r2 = refs_of (with_variable c l.declaration) in
-      joined (refs_of c) r2 r2 (zero_code b (ints_of c) (refs_of c)) _ (longer (refs_of c) (refs_of c + width b) r2 (zero_code b (ints_of c) (refs_of c)) (omega (arith, z)) (zeros b (ints_of c) (refs_of c)))
+      joined flat owner f m (refs_of c) r2 r2 (zero_code b (ints_of c) (refs_of c)) _ (longer flat owner f m (refs_of c) (refs_of c + width b) r2 (zero_code b (ints_of c) (refs_of c)) (omega (arith, z)) (zeros b (ints_of c) (refs_of c)))
       (initials c same l.declaration l.initial h)
 
   firsts : (c : Context) → c.program ≡ m → (x : First) → FirstSuits c x → Q (refs_of c) (first_code c x) (refs_of (behind_first c x))
-  firsts c same nothing h = nothing_at (refs_of c) (refs_of c) (omega arith)
-  firsts c same (declares l) h = enters (refs_of c) (refs_of (with_variable c l.declaration)) (local_code c l) (locals c same l h)
+  firsts c same nothing h = nothing_at flat owner f m (refs_of c) (refs_of c) (omega arith)
+  firsts c same (declares l) h = enters flat owner f m (refs_of c) (refs_of (with_variable c l.declaration)) (local_code c l) (locals c same l h)
   firsts c same (does x) h = simples c same (ints_of c) (refs_of c) (omega arith) x h
 
   steps : (c : Context) → c.program ≡ m → (x : Option Simple) → IfThere (SimpleSuits c) x → Q (refs_of c) (step_code c x) (refs_of c)
-  steps c same None h = nothing_at (refs_of c) (refs_of c) (omega arith)
+  steps c same None h = nothing_at flat owner f m (refs_of c) (refs_of c) (omega arith)
   steps c same (Some x) h = simples c same (ints_of c) (refs_of c) (omega arith) x h
 
   tests : (c : Context) → c.program ≡ m → (e : Expression) → TestSuits c e → Q (refs_of c) (test_code c e) (refs_of c)
   tests c same e h =
-      joined (refs_of c) (refs_of c + width (is_ref c e)) (refs_of c) (expression_code c (ints_of c) (refs_of c) e) _ (expressions flat owner f m c same (ints_of c) (refs_of c) (omega arith) e h.0) (truths flat owner g f E (is_ref c e) (ints_of c) (refs_of c))
+      joined flat owner f m (refs_of c) (refs_of c + width (is_ref c e)) (refs_of c) (expression_code c (ints_of c) (refs_of c) e) _ (expressions flat owner f m c same (ints_of c) (refs_of c) (omega arith) e h.0) (truths flat owner g f E (is_ref c e) (ints_of c) (refs_of c))
 
   -- ---- statements: of the code around one its loop is known
 
@@ -260,9 +242,6 @@ module _ (flat : Flat) (owner : ℕ → ℕ) (f : ℕ) (m : Assignment) where
       s : Slots
       s = with_slot (below 0) r full
 
-      one_full : AreFit s (with_slot (below 0) r full)
-      one_full = fit_same s
-
       there : 0 ≡ r → flow.Piece (held flat owner g f) D s pc (Op.MoveReference 0 r ∷ []) (below 1)
       there e = does_one flat owner g f D s (Op.MoveReference 0 r) s (below 1)
           (fit_below 1 s (λ k le. with_other (below 0) r full k (λ z. omega (arith, z, le, e)) ∙ below_free 0 k (omega arith))) (λ table q n. inl (e, n)) pc
@@ -286,7 +265,7 @@ module _ (flat : Flat) (owner : ℕ → ℕ) (f : ℕ) (m : Assignment) where
       let X = leaves c.scope marks in
       let Z = zero_code r 0 0 in
       then_at D (refs_of c) 0 to pc X (Z ++ Op.Return (at_site site) ∷ []) (left_for D c marks 0 pc h.outer)
-      (then_at D 0 (width r) to (pc + length X) Z (Op.Return (at_site site) ∷ []) (lift b n a 0 (width r) Z (longer 0 (0 + width r) (width r) Z (omega arith) (zeros r 0 0)) (pc + length X))
+      (then_at D 0 (width r) to (pc + length X) Z (Op.Return (at_site site) ∷ []) (lift b n a 0 (width r) Z (longer flat owner f m 0 (0 + width r) (width r) Z (omega arith) (zeros r 0 0)) (pc + length X))
       (return_at D r (pc + length X + length Z) to site h.result))
   returns c same b n a h site (Some e) k pc to =
       let D = L b n a in
@@ -308,53 +287,28 @@ module _ (flat : Flat) (owner : ℕ → ℕ) (f : ℕ) (m : Assignment) where
 
   -- ---- loops
 
-  test_length : (c : Context) (e : Expression) (over : ℕ) → length (turn_code c (Some e) over) ≡ length (test_code c e) + 1
-  test_length c e over = length-append (test_code c e) (Op.SkipIfZero (ints_of c) over ∷ [])
-
   -- of the code in a loop what leads back is known, too
   abbrev M : ℕ → Around → ℕ → (ℕ → Slots) → Type 0
   M n a pc table = L true n a table × Enters flat owner g table f (below n) (pc + 3)
 
-  back : (n : ℕ) (a : Around) (pc at : ℕ) (step : List Op) → Q n step n → S (M n a pc) n at (step ++ Op.Jump (pc + 3) ∷ []) n
-  back n a pc at step p =
-      then_at (M n a pc) n n n at step (Op.Jump (pc + 3) ∷ []) (flow.known (held flat owner g f) E (M n a pc) (below n) at step (below n) (λ table d. d.0.0) (p at)) (jump_at (M n a pc) n (pc + 3) (at + length step) n (λ table d. d.1))
-
-  inner_of : (c : Context) → c.program ≡ m → (a : Around) (e : Option Expression) → IfThere (TestSuits c) e → (pc : ℕ) (step code : List Op) → Q (refs_of c) step (refs_of c) → S (L true (refs_of c) a) (refs_of c) (body_at pc (turn_code c e)) code (refs_of c)
-      → flow.Inner (held flat owner g f) (M (refs_of c) a pc) (below (refs_of c)) (pc + 3) (turn_code c e (length code + length step + 1)) code (step ++ Op.Jump (pc + 3) ∷ [])
-  inner_of c same a None t pc step code p q =
-      let n = refs_of c in
-      let D = M n a pc in
-      let body = flow.known (held flat owner g f) (L true n a) D (below n) (pc + 3) code (below n) (λ table d. d.0) (at_place (L true n a) n (body_at pc (turn_code c None)) (pc + 3) code n (omega arith) q) in
-      flow.always (held flat owner g f) D (below n) (pc + 3) code (step ++ Op.Jump (pc + 3) ∷ []) body (back n a pc (pc + 3 + length code) step p)
-  inner_of c same a (Some e) t pc step code p q =
-      let n = refs_of c in
-      let D = M n a pc in
-      let X = test_code c e in
-      let S = step ++ Op.Jump (pc + 3) ∷ [] in
-      let at = pc + 3 + length X + 1 in
-      let z : body_at pc (turn_code c (Some e)) ≡ at = omega (arith, test_length c e 0) in
-      let body = flow.known (held flat owner g f) (L true n a) D (below n) at code (below n) (λ table d. d.0) (at_place (L true n a) n (body_at pc (turn_code c (Some e))) at code n z q) in
-      let test = flow.known (held flat owner g f) E D (below n) (pc + 3) X (below n) (λ table d. d.0.0) (tests c same e t (pc + 3)) in
-      let count : length (code ++ S) ≡ length code + length step + 1 = omega (arith, length-append code S, length-append step (Op.Jump (pc + 3) ∷ [])) in
-      subst (λ k. flow.Inner (held flat owner g f) D (below n) (pc + 3) (X ++ Op.SkipIfZero (ints_of c) k ∷ []) code S) count
-      (flow.decided (held flat owner g f) D (below n) (pc + 3) (ints_of c) X code S tt test body (back n a pc (at + length code) step p))
-
   loops : (c : Context) → c.program ≡ m → (b : Bool) (n : ℕ) (a around : Around) (e : Option Expression) → IfThere (TestSuits c) e → (pc : ℕ) (step code : List Op) → Q (refs_of c) step (refs_of c)
       → S (L true (refs_of c) (looping around (pc + 1) (pc + 2))) (refs_of c) (body_at pc (turn_code c e)) code (refs_of c) → S (L b n a) (refs_of c) pc (turns_code pc step (turn_code c e (length code + length step + 1)) code) (refs_of c)
   loops c same b n a around e t pc step code p q =
-      let T = turn_code c e (length code + length step + 1) in
-      let S = step ++ Op.Jump (pc + 3) ∷ [] in
       let k = refs_of c in
       let inside = looping around (pc + 1) (pc + 2) in
-      looped flat owner g f (L b n a) (M k inside pc) (below k) pc T code S (length T + length code + length step + 2) (λ table d e1 e2 e3. ((d.0, λ sure. (e1, e2)), e3)) (omega (arith, length-append step (Op.Jump (pc + 3) ∷ [])))
-      (inner_of c same inside e t pc step code p q)
+      let D = M k inside pc in
+      looped flat owner g f (L b n a) D (below k) c pc step code
+      (λ at. then_at D k k k at step (Op.Jump (pc + 3) ∷ []) (flow.known (held flat owner g f) E D (below k) at step (below k) (λ table d. d.0.0) (p at)) (jump_at D k (pc + 3) (at + length step) k (λ table d. d.1)))
+      (λ table d e1 e2 e3. ((d.0, λ sure. (e1, e2)), e3)) e
+      (λ x is. flow.known (held flat owner g f) E D (below k) (pc + 3) (test_code c x) (below k) (λ table d. d.0.0) (tests c same x (subst (IfThere (TestSuits c)) is t) (pc + 3)))
+      (flow.known (held flat owner g f) (L true k inside) D (below k) (body_at pc (turn_code c e)) code (below k) (λ table d. d.0) q)
 
   plain_end : (D : (ℕ → Slots) → Type 0) (c : Context) (x : Statement) → is_declaration x ≡ false → (pc : ℕ) (os : List Op) → S D (refs_of c) pc os (refs_of (behind_statement c x)) → S D (refs_of c) pc os (refs_of c)
   plain_end D c x e pc os p = subst (λ z. S D (refs_of c) pc os (refs_of z)) (nothing_declared c x e) p
 
   mutual
     pub statements : (c : Context) → c.program ≡ m → (b : Bool) (n : ℕ) (a : Around) → IsAround (g f) b n a c.scope → (pc : ℕ) (x : Statement) → StatementSuits c a.result b x → S (L b n a) (refs_of c) pc (statement_code c a pc x) (refs_of (behind_statement c x))
-    statements c same b n a w pc (empty s) h = entered (L b n a) (refs_of c) pc (refs_of c) [] (lift b n a (refs_of c) (refs_of c) [] (nothing_at (refs_of c) (refs_of c) (omega arith)) (pc + 1))
+    statements c same b n a w pc (empty s) h = entered (L b n a) (refs_of c) pc (refs_of c) [] (lift b n a (refs_of c) (refs_of c) [] (nothing_at flat owner f m (refs_of c) (refs_of c) (omega arith)) (pc + 1))
     statements c same b n a w pc (block s all) h =
         let D = L b n a in
         let d = behind_statements c all in
@@ -397,7 +351,7 @@ module _ (flat : Flat) (owner : ℕ → ℕ) (f : ℕ) (m : Assignment) where
         let at = body_at (pc + 1) (turn_code c (Some e)) in
         let X = statement_code c inside at x in
         entered D k pc k (turns_code (pc + 1) [] (turn_code c (Some e) (length X + 0 + 1)) X)
-        (loops c same b n a a (Some e) h.0 (pc + 1) [] X (nothing_at k k (omega arith))
+        (loops c same b n a a (Some e) h.0 (pc + 1) [] X (nothing_at flat owner f m k k (omega arith))
         (plain_end (L true k inside) c x h.2 at X (statements c same true k inside (record { inner = λ sure. refl; outer = w.outer; result = w.result }) at x h.1)))
     statements c same b n a w pc (for s hd x) h =
         let D = L b n a in
@@ -424,7 +378,7 @@ module _ (flat : Flat) (owner : ℕ → ℕ) (f : ℕ) (m : Assignment) where
 
     pub all_statements : (c : Context) → c.program ≡ m → (b : Bool) (n : ℕ) (a : Around) → IsAround (g f) b n a c.scope → IsRoomy a.inside c.scope → (pc : ℕ) (all : Statements) → StatementsSuit c a.result b all
         → S (L b n a) (refs_of c) pc (statements_code c a pc all) (refs_of (behind_statements c all))
-    all_statements c same b n a w room pc no_statements h = lift b n a (refs_of c) (refs_of c) [] (nothing_at (refs_of c) (refs_of c) (omega arith)) pc
+    all_statements c same b n a w room pc no_statements h = lift b n a (refs_of c) (refs_of c) [] (nothing_at flat owner f m (refs_of c) (refs_of c) (omega arith)) pc
     all_statements c same b n a w room pc (statement x rest) h =
         let d = behind_statement c x in
         let grows = after_grows c x in

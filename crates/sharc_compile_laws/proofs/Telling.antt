@@ -1,5 +1,5 @@
 -- What the threads of a run report, among the events of all threads.
-use Rattle.sharc_compile_laws.proofs.Imports.{◌≡◌, ℕ, ℤ, ◌+◌, ◌<◌, inl, inr, ⊎_elim, Bool, true, false, cond, List, [], ◌∷◌, ◌++◌, length, map, reverse, refl, sym, ap, ◌∙◌, subst, arith, slice_get, nat_tests, append-nil, reverse-reverse, filter-append, ◌==◌, nat_eq, filter, slice_index_or, SourceEvent, function_at, functions_in, Assignment, events_of, is_of, asks, IsNamedAt, answers_of, by, Code, Row, no_function, Said, said_by, Erase, FlatCode, flat_of, rows_of, names_of, Flattens, globals_of, entered_at, place, dropped, begins, program_of, told_in, IsCodeOf, RunsFollowSource, FollowsSource, TellsIn, ThreadsTell, reverse_cons, AreOf, IsFirstOf, OwnAreTold, same_test}
+use Rattle.sharc_compile_laws.proofs.Imports.{◌≡◌, ℕ, ℤ, ◌<◌, inl, inr, ⊎_elim, Bool, true, false, cond, List, [], ◌∷◌, ◌++◌, length, map, reverse, refl, sym, ap, ◌∙◌, subst, arith, slice_get, nat_tests, append-nil, reverse-reverse, filter-append, ◌==◌, nat_eq, filter, slice_index_or, SourceEvent, function_at, functions_in, Assignment, events_of, is_of, asks, IsNamedAt, answers_of, by, Code, Row, no_function, Said, said_by, Erase, FlatCode, flat_of, rows_of, names_of, Flattens, globals_of, entered_at, place, dropped, begins, program_of, told_in, IsCodeOf, RunsFollowSource, FollowsSource, TellsIn, ThreadsTell, reverse_cons, AreOfThread, IsFirstOf, OwnAreTold, same_test}
 use Rattle.sharc_flat_lemmas.proofs.{Functions.{are_rows, row_of, rows_as_many}, Laid.{mapped_same, rows_many, rows_same}}
 use Rattle.sharc_lemmas.proofs.{Lists.some_there, Numbers.same_test}
 
@@ -14,15 +14,15 @@ filter_reverse f (x ∷ xs) =
     by false = append-nil (reverse (filter f xs))
 
 -- ---- whose events they are
-of_append : (t : ℕ) (xs ys : List SourceEvent) → AreOf t xs → AreOf t ys → AreOf t (xs ++ ys)
+of_append : (t : ℕ) (xs ys : List SourceEvent) → AreOfThread t xs → AreOfThread t ys → AreOfThread t (xs ++ ys)
 of_append t [] ys a b = b
 of_append t (x ∷ xs) ys a b = (a.0, of_append t xs ys a.1 b)
 
-of_reverse : (t : ℕ) (xs : List SourceEvent) → AreOf t xs → AreOf t (reverse xs)
+of_reverse : (t : ℕ) (xs : List SourceEvent) → AreOfThread t xs → AreOfThread t (reverse xs)
 of_reverse t [] h = tt
-of_reverse t (x ∷ xs) h = subst (AreOf t) (sym (reverse_cons x xs)) (of_append t (reverse xs) (x ∷ []) (of_reverse t xs h.1) (h.0, tt))
+of_reverse t (x ∷ xs) h = subst (AreOfThread t) (sym (reverse_cons x xs)) (of_append t (reverse xs) (x ∷ []) (of_reverse t xs h.1) (h.0, tt))
 
-of_map : (t : ℕ) (es : List SourceEvent) → AreOf t (map (by t) es)
+of_map : (t : ℕ) (es : List SourceEvent) → AreOfThread t (map (by t) es)
 of_map t [] = tt
 of_map t (e ∷ es) = (refl, of_map t es)
 
@@ -31,7 +31,7 @@ abbrev AreSaidByOwn : List (Said SourceEvent) → Type 0
 AreSaidByOwn [] = Unit {0}
 AreSaidByOwn (s ∷ says) = (s.told.thread ≡ s.thread) × AreSaidByOwn says
 
-all_own : (says : List (Said SourceEvent)) → ((t : ℕ) → AreOf t (told_in (said_by t says))) → AreSaidByOwn says
+all_own : (says : List (Said SourceEvent)) → ((t : ℕ) → AreOfThread t (told_in (said_by t says))) → AreSaidByOwn says
 all_own [] h = tt
 all_own (s ∷ says) h = (head, all_own says (λ t. drops t (nat_eq t s.thread) (h t)))
   where
@@ -39,9 +39,9 @@ all_own (s ∷ says) h = (head, all_own says (λ t. drops t (nat_eq t s.thread) 
     self = grind (arith, nat_tests)
 
     head : s.told.thread ≡ s.thread
-    head = (subst (AreOf s.thread) (ap (λ b. told_in (cond b (s ∷ said_by s.thread says) (said_by s.thread says))) self) (h s.thread)).0
+    head = (subst (AreOfThread s.thread) (ap (λ b. told_in (cond b (s ∷ said_by s.thread says) (said_by s.thread says))) self) (h s.thread)).0
 
-    drops : (t : ℕ) (b : Bool) → AreOf t (told_in (cond b (s ∷ said_by t says) (said_by t says))) → AreOf t (told_in (said_by t says))
+    drops : (t : ℕ) (b : Bool) → AreOfThread t (told_in (cond b (s ∷ said_by t says) (said_by t says))) → AreOfThread t (told_in (said_by t says))
     drops t true k = k.1
     drops t false k = k
 
@@ -74,7 +74,7 @@ split t (x ∷ R) e es q = by (is_of t x) refl q (split t R e es)
 
 pub told_are_own : OwnAreTold
 told_are_own = record {
-  own = λ says own t. filter_reverse (is_of t) (told_in says) ∙ ap reverse (filtered t says (all_own says (λ t. subst (AreOf t) (reverse-reverse (told_in (said_by t says))) (of_reverse t (reverse (told_in (said_by t says))) (own t)))));
+  own = λ says own t. filter_reverse (is_of t) (told_in says) ∙ ap reverse (filtered t says (all_own says (λ t. subst (AreOfThread t) (reverse-reverse (told_in (said_by t says))) (of_reverse t (reverse (told_in (said_by t says))) (own t)))));
   first = split;
 }
 
@@ -88,10 +88,10 @@ started_at_name m flat made code is f argument known =
     let pl = place (dropped (flat_of flat)) flat.lines.items in
     let rows = rows_of m gs 0 fs in
     let are = are_rows m gs 0 fs in
-    let x = some_there fs f (omega (arith, known, rows_as_many m gs 0 fs rows are, rows_many flat.texts.items rows (names_of fs) flat.functions.items made.lays.functions)) in
+    let x = some_there fs f (omega (arith, known, rows_as_many m gs 0 fs rows are, rows_many flat.texts.items rows (names_of fs) flat.functions.items made.functions)) in
     let site : (begins (program_of is.g) f argument).site ≡ (slice_index_or rows f no_function).site =
     ap (λ (rows : List Row). (slice_index_or rows f no_function).site) is.made.functions ∙ mapped_same (λ row. row.site) (entered_at pl) (λ row. refl) flat.functions.items f
-    ∙ rows_same (λ row. row.site) (λ row name. refl) flat.texts.items rows (names_of fs) flat.functions.items made.lays.functions f
+    ∙ rows_same (λ row. row.site) (λ row name. refl) flat.texts.items rows (names_of fs) flat.functions.items made.functions f
     in
     subst (IsNamedAt (slice_get fs f)) (sym site) (subst (λ o. IsNamedAt o (slice_index_or rows f no_function).site) (sym x.1) (row_of m gs 0 fs rows are f x.0 x.1).site)
 
@@ -108,9 +108,9 @@ tell law m suits flat made fits code is s run checked consistent t =
     let says = Erase code s run in
     let R = reverse (told_in says) in
     let told : ℕ → List SourceEvent = λ t. reverse (told_in (said_by t (Erase code s run))) in
-    let owned : (t : ℕ) → AreOf t (told t) = λ t. ⊎_elim
-    (λ b. subst (AreOf t) (sym b.nothing) tt)
-    (λ (h : FollowsSource m code (program_of is.g) (length flat.functions.items) t _ (told t) _ _). subst (AreOf t) (sym h.starts) (refl, of_map t h.after))
+    let owned : (t : ℕ) → AreOfThread t (told t) = λ t. ⊎_elim
+    (λ b. subst (AreOfThread t) (sym b.nothing) tt)
+    (λ (h : FollowsSource m code (program_of is.g) (length flat.functions.items) t _ (told t) _ _). subst (AreOfThread t) (sym h.starts) (refl, of_map t h.after))
     (law m suits flat made fits code is s t run checked (consistent t))
     in
     let events : events_of t R ≡ told t = told_are_own.own says owned t in

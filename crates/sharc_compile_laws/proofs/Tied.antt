@@ -142,6 +142,10 @@ module _ (flat : Flat) (table : ℕ → Ties) (last : (q : ℕ) → length flat.
     below = ((λ t y. let w = known t y in let lt = w.1 in (omega (arith, lt), h.holds t w.0)), omega arith, h.below);
   }
 
+  skipped : (b : Bool) (k : ℕ) (m : At) → Fit (table m.pc) (table (m.pc + 1 + k)) × Fit (table m.pc) (table (m.pc + 1)) → IsTied m → IsTied (cond b (over_lines k m) (next m))
+  skipped true k m n h = leaves m (over_lines k m) refl refl (λ k. refl) n.0 h
+  skipped false k m n h = leaves m (next m) refl refl (λ k. refl) n.1 h
+
   op_tied : (o : Op) (m : At) → Next flat table m.pc (table m.pc) o → IsTied m → (x : ℤ) → Tied m (op_turn flat o m) x
   op_tied Op.Enter m n h x go = leaves m (next m) refl refl (λ k. refl) n h
   op_tied (Op.Constant i v) m n h x go = set_to i v m n h
@@ -153,16 +157,8 @@ module _ (flat : Flat) (table : ℕ → Ties) (last : (q : ℕ) → length flat.
   op_tied (Op.SameReference i a b) m n h x go = set_to i _ m n h
   op_tied (Op.ChkWidth width i spot) m n h x go = asserted _ _ spot m x n h go
   op_tied (Op.Skip k) m n h x go = leaves m (after m (op_turn flat (Op.Skip k) m) x) refl refl (λ k. refl) n h
-  op_tied (Op.SkipIfZero i k) m n h x go = by (is_zero (int m i))
-    where
-      by : (b : Bool) → IsTied (cond b (over_lines k m) (next m))
-      by true = leaves m (over_lines k m) refl refl (λ k. refl) n.0 h
-      by false = leaves m (next m) refl refl (λ k. refl) n.1 h
-  op_tied (Op.SkipIfNull r k) m n h x go = by (is_null (ref m r))
-    where
-      by : (b : Bool) → IsTied (cond b (over_lines k m) (next m))
-      by true = leaves m (over_lines k m) refl refl (λ k. refl) n.0 h
-      by false = leaves m (next m) refl refl (λ k. refl) n.1 h
+  op_tied (Op.SkipIfZero i k) m n h x go = skipped (is_zero (int m i)) k m n h
+  op_tied (Op.SkipIfNull r k) m n h x go = skipped (is_null (ref m r)) k m n h
   op_tied (Op.Jump to) m n h x go = leaves m (record m { pc = to }) refl refl (λ k. refl) n h
   op_tied (Op.Call f ints refs spot) m n h x go = tried (nat_lt (length m.frames) 255) m (called flat f ints refs m) x Trap.CallDepth spot (called_to f ints refs m n.0 n.1 h) go
   op_tied (Op.Return spot) m n h x go = back m.frames spot m x h.below h go

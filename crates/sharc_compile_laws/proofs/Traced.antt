@@ -1,5 +1,5 @@
 -- The code of statements and of functions: nothing is known of integer registers where a statement begins and ends.
-use Rattle.sharc_compile_laws.proofs.{Imports.{append_assoc, pos, slice_get, slice_index_or, ◌≡◌, ℕ, ◌+◌, ◌≤◌, Bool, true, false, cond, List, [], ◌∷◌, ◌++◌, length, take, drop, refl, ap, sym, ◌∙◌, subst, arith, length-append, get_or_past, Option, Some, None, ⊎_elim, cases_lt, Site, Declaration, Jump, Break, Continue, span_of, Expression, Right, value, malloc, Simple, assign, does_call, Local, First, nothing, declares, does, Statement, empty, block, declare, simple, jump, return, if_then, if_then_else, while, for, Statements, no_statements, statement, Function, Kind, declared_kind, Row, GlobalCells, no_function, functions_in, pointed, Assignment, written, row_at, declared_row, Sharing, private, is_reference, Op, Flat, function_of, Slot, Context, ref_count, at_site, pops, ends_from, leaves, variable, base_width, index_width, width_code, kind_of, is_ref, target_of, mode_of, guard_of, lvalue_in, drop_code, expression_code, place_code, elements_code, right_code, simple_code, with_variable, ints_of, refs_of, zero_code, declared_lvalue, initial_code, local_code, first_code, behind_first, step_code, test_code, turn_code, Around, opened, looping, jump_code, result_code, return_code, body_at, turns_code, behind_statement, behind_statements, statement_code, statements_code, in_function, around_body, function_code, functions_code, IsFlattened, agrees_all, Agrees, LocksStand}, Ties.{Ties, Fit, fit_same, nothing_in, Needs}, Tied.locks_stand, Tying.{Low, low_place, Piece, Entries, P, tied, then_do, one, R, both, none, plain, sets, moves, pops as pops_one, truths, widths, enters, expressions, places, stores, T}}
+use Rattle.sharc_compile_laws.proofs.{Imports.{append_assoc, pos, slice_get, slice_index_or, ◌≡◌, ℕ, ◌+◌, ◌≤◌, Bool, true, false, cond, List, [], ◌∷◌, ◌++◌, length, take, drop, refl, ap, sym, ◌∙◌, subst, arith, get_or_past, Option, Some, None, ⊎_elim, cases_lt, Site, Declaration, Jump, Break, Continue, span_of, Expression, Right, value, malloc, Simple, assign, does_call, Local, First, nothing, declares, does, Statement, empty, block, declare, simple, jump, return, if_then, if_then_else, while, for, Statements, no_statements, statement, Function, Kind, declared_kind, Row, GlobalCells, no_function, functions_in, pointed, Assignment, written, row_at, declared_row, Sharing, private, is_reference, Op, Flat, function_of, Slot, Context, ref_count, at_site, pops, ends_from, leaves, variable, base_width, index_width, width_code, kind_of, is_ref, target_of, mode_of, guard_of, lvalue_in, drop_code, expression_code, place_code, elements_code, right_code, simple_code, with_variable, ints_of, refs_of, zero_code, declared_lvalue, initial_code, local_code, first_code, behind_first, step_code, test_code, turn_code, Around, opened, looping, jump_code, result_code, return_code, body_at, turns_code, behind_statement, behind_statements, statement_code, statements_code, in_function, around_body, function_code, functions_code, IsFlattened, agrees_all, Agrees, LocksStand}, Ties.{Ties, Fit, fit_same, nothing_in, Needs}, Tied.locks_stand, Tying.{Low, low_place, Piece, Entries, P, tied, then_do, one, R, both, none, plain, sets, moves, pops as pops_one, truths, widths, enters, expressions, places, stores, T}, Looping.{loop, test_length}}
 use Rattle.sharc_flat_lemmas.proofs.Functions.{begin_of, row_of, rows_as_many, whole}
 use Rattle.sharc_flat_lemmas.proofs.Flow as flow
 use Rattle.sharc_lemmas.proofs.Lists.{some_there}
@@ -137,45 +137,18 @@ module _ (flat : Flat) where
   jumps c a Break pc = then_at (L a) pc (leaves c.scope a.inside) (Op.Jump a.broken ∷ []) (lift_l a _ (leaves_x c.scope a.inside) pc) (jump_to (L a) a.broken _ (λ table d. d.1))
   jumps c a Continue pc = then_at (L a) pc (leaves c.scope a.inside) (Op.Jump a.continued ∷ []) (lift_l a _ (leaves_x c.scope a.inside) pc) (jump_to (L a) a.continued _ (λ table d. d.2))
 
-  test_length : (c : Context) (e : Expression) (over : ℕ) → length (turn_code c (Some e) over) ≡ length (test_code c e) + 1
-  test_length c e over = length-append (test_code c e) (Op.SkipIfZero (ints_of c) over ∷ [])
-
   -- of the code in a loop what leads back is known, too
   abbrev M : Around → ℕ → (ℕ → Ties) → Type 0
   M a pc table = L a table × (table (pc + 3) ≡ [])
 
-  back : (a : Around) (pc at : ℕ) (step : List Op) → X step → S (M a pc) at (step ++ Op.Jump (pc + 3) ∷ [])
-  back a pc at step p = then_at (M a pc) at step (Op.Jump (pc + 3) ∷ []) (lift (M a pc) (λ table d. d.0.0) step p at) (jump_to (M a pc) (pc + 3) (at + length step) (λ table d. d.1))
-
-  abbrev Inner : ((ℕ → Ties) → Type 0) → ℕ → List Op → List Op → List Op → Type 0
-  Inner D = flow.Inner (tied flat) D []
-
-  inner_of : (c : Context) → c.globals ≡ flat.globals → (a : Around) (e : Option Expression) (pc : ℕ) (step code : List Op) → X step → S (L a) (body_at pc (turn_code c e)) code
-      → Inner (M a pc) (pc + 3) (turn_code c e (length code + length step + 1)) code (step ++ Op.Jump (pc + 3) ∷ [])
-  inner_of c same a None pc step code p q =
-      let D = M a pc in
-      let body = flow.known (tied flat) (L a) D [] (pc + 3) code [] (λ table d. d.0) (at_place (L a) (body_at pc (turn_code c None)) (pc + 3) code (omega arith) q) in
-      flow.always (tied flat) D [] (pc + 3) code (step ++ Op.Jump (pc + 3) ∷ []) body (back a pc (pc + 3 + length code) step p)
-  inner_of c same a (Some e) pc step code p q =
-      let D = M a pc in
-      let X1 = test_code c e in
-      let S1 = step ++ Op.Jump (pc + 3) ∷ [] in
-      let at = pc + 3 + length X1 + 1 in
-      let z : body_at pc (turn_code c (Some e)) ≡ at = omega (arith, test_length c e 0) in
-      let body = flow.known (tied flat) (L a) D [] at code [] (λ table d. d.0) (at_place (L a) (body_at pc (turn_code c (Some e))) at code z q) in
-      let test = lift D (λ table d. d.0.0) X1 (tests c same e) (pc + 3) in
-      let count : length (code ++ S1) ≡ length code + length step + 1 = omega (arith, length-append code S1, length-append step (Op.Jump (pc + 3) ∷ [])) in
-      subst (λ k. Inner D (pc + 3) (X1 ++ Op.SkipIfZero (ints_of c) k ∷ []) code S1) count
-      (flow.decided (tied flat) D [] (pc + 3) (ints_of c) X1 code S1 tt test body (back a pc (at + length code) step p))
-
   loops : (c : Context) → c.globals ≡ flat.globals → (a around : Around) (e : Option Expression) (pc : ℕ) (step code : List Op) → X step → S (L (looping around (pc + 1) (pc + 2))) (body_at pc (turn_code c e)) code
       → S (L a) pc (turns_code pc step (turn_code c e (length code + length step + 1)) code)
   loops c same a around e pc step code p q =
-      let T1 = turn_code c e (length code + length step + 1) in
-      let S1 = step ++ Op.Jump (pc + 3) ∷ [] in
       let inside = looping around (pc + 1) (pc + 2) in
-      flow.looped (tied flat) (L a) (M inside pc) [] pc T1 code S1 (length T1 + length code + length step + 2) tt
-      (λ table d e1 e2 e3. ((d.0, nothing_in (table (pc + 1)) e1.1, nothing_in (table (pc + 2)) e2.1), nothing_in (table (pc + 3)) e3.1)) (omega (arith, length-append step (Op.Jump (pc + 3) ∷ []))) (inner_of c same inside e pc step code p q)
+      loop (tied flat) (L a) (M inside pc) [] tt c pc step code
+      (λ at. then_at (M inside pc) at step (Op.Jump (pc + 3) ∷ []) (lift (M inside pc) (λ table d. d.0.0) step p at) (jump_to (M inside pc) (pc + 3) (at + length step) (λ table d. d.1)))
+      (λ table d e1 e2 e3. ((d.0, nothing_in (table (pc + 1)) e1.1, nothing_in (table (pc + 2)) e2.1), nothing_in (table (pc + 3)) e3.1)) e
+      (λ x is. lift (M inside pc) (λ table d. d.0.0) (test_code c x) (tests c same x) (pc + 3)) (flow.known (tied flat) (L inside) (M inside pc) [] (body_at pc (turn_code c e)) code [] (λ table d. d.0) q)
 
   mutual
     statements : (c : Context) → c.globals ≡ flat.globals → (a : Around) (pc : ℕ) (x : Statement) → S (L a) pc (statement_code c a pc x)

@@ -297,52 +297,38 @@ module _ (flat : Flat) where
     held_left : (a b : Ties) (m : At) → AllHold flat (a ++ b) m → AllHold flat a m
     held_left a b m h x y = h x (in_left a b x y)
 
+    -- an access of a cell, behind the load of what guards it
+    accessed : (i r : ℕ) (site : Site) (lvalue : Lvalue) (use_made : Use) (mode : Sharing) (t : Target) → is_cell t ≡ true → (s : Ties) (o : Op) (rest : List Op) → ((table : ℕ → Ties) (pc : ℕ) → Fit s (table (pc + 1)) → Next flat table pc (M t mode i ++ s) o)
+        → ((m : At) → IsBeside flat m (cell_of c.globals i r t) (spot_of c i r site lvalue use_made mode t) (spot_of c i r site lvalue use_made mode t).mode → LockStands flat m o) → P s rest s
+        → P (M t mode i ++ s) (guard_code c i r site lvalue t (guard_field c.program.typed mode) ++ (o ∷ rest)) s
+    accessed i r site lvalue use_made mode t is s o rest next stands p =
+        let A = M t mode i in
+        then_do (A ++ s) (A ++ s) s (guard_code c i r site lvalue t (guard_field c.program.typed mode)) (o ∷ rest) (guards (A ++ s) i r site lvalue t (guard_field c.program.typed mode))
+        (then_do (A ++ s) s s (o ∷ []) rest (one (A ++ s) o s (λ table pc d fit. record { next = next table pc fit; stands = λ m h. stands m (access_stands c same m i r site lvalue use_made t is mode (held_left A s m h)) })) p)
+
+    -- where it writes no integer
+    left : (t : Target) (mode : Sharing) (i : ℕ) (s : Ties) (table : ℕ → Ties) (pc : ℕ) → Fit s (table (pc + 1)) → Fit (M t mode i ++ s) (table (pc + 1))
+    left t mode i s table pc fit = fit_through (M t mode i ++ s) s (table (pc + 1)) (in_right (M t mode i) s) fit
+
     cell_values : (i r : ℕ) (site : Site) (lvalue : Lvalue) (mode : Sharing) (b : Bool) (t : Target) → is_cell t ≡ true → (s : Ties) → Low i s → P (M t mode i ++ s) (cell_value_code c i r site lvalue mode b t) s
-    cell_values i r site lvalue mode true t is s low =
-        let A = M t mode i in
-        then_do (A ++ s) (A ++ s) s (guard_code c i r site lvalue t (guard_field c.program.typed mode)) _ (guards (A ++ s) i r site lvalue t (guard_field c.program.typed mode))
-        (then_do (A ++ s) s s (Op.LoadRef (r + base_width t) _ _ ∷ []) (settle_base r t)
-        (one (A ++ s) (Op.LoadRef (r + base_width t) _ _) s (λ table pc d fit. record { next = fit_through (A ++ s) s (table (pc + 1)) (in_right A s) fit; stands = λ m h. access_stands c same m i r site lvalue Use.Read t is mode (held_left A s m h) }))
-        (settles i r t s low))
+    cell_values i r site lvalue mode true t is s low = accessed i r site lvalue Use.Read mode t is s (Op.LoadRef (r + base_width t) _ _) (settle_base r t) (left t mode i s) (λ m h. h) (settles i r t s low)
     cell_values i r site lvalue mode false t is s low =
-        let A = M t mode i in
-        then_do (A ++ s) (A ++ s) s (guard_code c i r site lvalue t (guard_field c.program.typed mode)) _ (guards (A ++ s) i r site lvalue t (guard_field c.program.typed mode))
-        (then_do (A ++ s) s s (Op.Load i _ _ ∷ []) (drop_base r t)
-        (one (A ++ s) (Op.Load i _ _) s (λ table pc d fit. record {
-          next = λ x y. let z = fit x y in (in_right A s x z, apart_low i i s low (omega arith) x z);
-          stands = λ m h. access_stands c same m i r site lvalue Use.Read t is mode (held_left A s m h);
-        }))
-        (drops i r t s low))
+        accessed i r site lvalue Use.Read mode t is s (Op.Load i _ _) (drop_base r t) (λ table pc fit x y. let z = fit x y in (in_right (M t mode i) s x z, apart_low i i s low (omega arith) x z)) (λ m h. h) (drops i r t s low)
 
     values : (i r : ℕ) (site : Site) (lvalue : Lvalue) (mode : Sharing) (b : Bool) (t : Target) (s : Ties) → Low i s → P (M t mode i ++ s) (value_code c i r site lvalue mode b t) s
     values i r site lvalue mode b (variable x) s low = copies i r (register_of c.scope x) s low
     values i r site lvalue mode b k s low = cell_values i r site lvalue mode b k refl s low
 
     cell_takes : (i r : ℕ) (site : Site) (lvalue : Lvalue) (mode : Sharing) (form : Option ℕ → Use) (t : Target) → is_cell t ≡ true → (s : Ties) → Low i s → P (M t mode i ++ s) (cell_take_code c i r site lvalue mode form t) s
-    cell_takes i r site lvalue mode form t is s low =
-        let A = M t mode i in
-        then_do (A ++ s) (A ++ s) s (guard_code c i r site lvalue t (guard_field c.program.typed mode)) _ (guards (A ++ s) i r site lvalue t (guard_field c.program.typed mode))
-        (then_do (A ++ s) s s (Op.TakeCell (r + base_width t) _ _ ∷ []) (settle_base r t)
-        (one (A ++ s) (Op.TakeCell (r + base_width t) _ _) s (λ table pc d fit. record { next = fit_through (A ++ s) s (table (pc + 1)) (in_right A s) fit; stands = λ m h. access_stands c same m i r site lvalue (form None) t is mode (held_left A s m h) }))
-        (settles i r t s low))
+    cell_takes i r site lvalue mode form t is s low = accessed i r site lvalue (form None) mode t is s (Op.TakeCell (r + base_width t) _ _) (settle_base r t) (left t mode i s) (λ m h. h) (settles i r t s low)
 
     takes : (i r : ℕ) (site : Site) (lvalue : Lvalue) (mode : Sharing) (form : Option ℕ → Use) (t : Target) (s : Ties) → Low i s → P (M t mode i ++ s) (take_code c i r site lvalue mode form t) s
     takes i r site lvalue mode form (variable x) s low = quiet s (Op.TakeLocal r _ _) (λ table pc f. f) (λ m. tt)
     takes i r site lvalue mode form k s low = cell_takes i r site lvalue mode form k refl s low
 
     cell_stores : (i r vi vr : ℕ) (site : Site) (lvalue : Lvalue) (mode : Sharing) (b : Bool) (t : Target) → is_cell t ≡ true → (s : Ties) → Low i s → P (M t mode i ++ s) (cell_store_code c i r vi vr site lvalue mode b t) s
-    cell_stores i r vi vr site lvalue mode true t is s low =
-        let A = M t mode i in
-        then_do (A ++ s) (A ++ s) s (guard_code c i r site lvalue t (guard_field c.program.typed mode)) _ (guards (A ++ s) i r site lvalue t (guard_field c.program.typed mode))
-        (then_do (A ++ s) s s (Op.StoreRef vr _ _ ∷ []) (drop_base r t)
-        (one (A ++ s) (Op.StoreRef vr _ _) s (λ table pc d fit. record { next = fit_through (A ++ s) s (table (pc + 1)) (in_right A s) fit; stands = λ m h. access_stands c same m i r site lvalue Use.Write t is mode (held_left A s m h) }))
-        (drops i r t s low))
-    cell_stores i r vi vr site lvalue mode false t is s low =
-        let A = M t mode i in
-        then_do (A ++ s) (A ++ s) s (guard_code c i r site lvalue t (guard_field c.program.typed mode)) _ (guards (A ++ s) i r site lvalue t (guard_field c.program.typed mode))
-        (then_do (A ++ s) s s (Op.Store vi _ _ ∷ []) (drop_base r t)
-        (one (A ++ s) (Op.Store vi _ _) s (λ table pc d fit. record { next = fit_through (A ++ s) s (table (pc + 1)) (in_right A s) fit; stands = λ m h. access_stands c same m i r site lvalue Use.Write t is mode (held_left A s m h) }))
-        (drops i r t s low))
+    cell_stores i r vi vr site lvalue mode true t is s low = accessed i r site lvalue Use.Write mode t is s (Op.StoreRef vr _ _) (drop_base r t) (left t mode i s) (λ m h. h) (drops i r t s low)
+    cell_stores i r vi vr site lvalue mode false t is s low = accessed i r site lvalue Use.Write mode t is s (Op.Store vi _ _) (drop_base r t) (left t mode i s) (λ m h. h) (drops i r t s low)
 
     -- a store into a variable leaves nothing known
     pub stores : (i r vi vr : ℕ) (site : Site) (lvalue : Lvalue) (mode : Sharing) (b : Bool) (t : Target) → P (M t mode i ++ []) (store_code c i r vi vr site lvalue mode b t) []

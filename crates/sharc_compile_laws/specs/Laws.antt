@@ -11,7 +11,7 @@ use Rattle.sharc_guard.specs.{Counted.{LocksStand, Guards}, Guard.guarded, Level
 abbrev pub FlattenedIsLevel : Type 0
 FlattenedIsLevel = (m : Assignment) → ProgramSuits m → (flat : Flat) → IsFlattened m flat → IsLevel flat
 
--- nor does it with its texts laid out
+-- nor does what flattening makes
 abbrev pub MadeIsLevel : Type 0
 MadeIsLevel = (m : Assignment) → ProgramSuits m → (code : FlatCode) → Flattens m code → IsLevel (flat_of code)
 

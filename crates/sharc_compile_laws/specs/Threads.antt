@@ -13,9 +13,9 @@ use Rattle.sharc_flat.specs.{Flattens.Flattens, Laws.FitsMade}
 use Rattle.sharc_compile.specs.{Consistent.IsConsistent, OfRuns.{elements_before, founds_of, told_in}, Made.IsCodeOf}
 
 -- ---- whose events they are
-abbrev pub AreOf : (thread : ℕ) → List SourceEvent → Type 0
-AreOf thread [] = Unit {0}
-AreOf thread (e ∷ es) = (e.thread ≡ thread) × AreOf thread es
+abbrev pub AreOfThread : (thread : ℕ) → List SourceEvent → Type 0
+AreOfThread thread [] = Unit {0}
+AreOfThread thread (e ∷ es) = (e.thread ≡ thread) × AreOfThread thread es
 
 -- the first event of a thread in a history, and those that it has after it
 pub record IsFirstOf (thread : ℕ) (R : List SourceEvent) (e : SourceEvent) (later : List SourceEvent) : Type 0 where
@@ -28,7 +28,7 @@ pub record IsFirstOf (thread : ℕ) (R : List SourceEvent) (e : SourceEvent) (la
 -- Where all that each thread says is its own, the events of a thread in the history are what it says; and the first of
 -- its events stands somewhere.
 pub record OwnAreTold : Type 0 where
-  pub own : (says : List (Said SourceEvent)) → ((t : ℕ) → AreOf t (reverse (told_in (said_by t says))))
+  pub own : (says : List (Said SourceEvent)) → ((t : ℕ) → AreOfThread t (reverse (told_in (said_by t says))))
       → (t : ℕ) → events_of t (reverse (told_in says)) ≡ reverse (told_in (said_by t says))
   pub first : (t : ℕ) (R : List SourceEvent) (e : SourceEvent) (later : List SourceEvent) → events_of t R ≡ e ∷ later
       → IsFirstOf t R e later

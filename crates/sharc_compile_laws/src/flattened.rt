@@ -3,6 +3,7 @@
 ghost use Rattle.sharc_compile_laws.specs.Laws.{FlattenedIsLevel, FlattenedLocksStand, MadeIsLevel, MadeLocksStand};
 ghost use Rattle.sharc_compile_laws.specs.Laws.{TypedCounts, TypedIsLevel};
 
+use sharc_flat::laws::made_is_flattened;
 use sharc_flat_laws::laws::typed_suits;
 use sharc_guard::counted_law;
 
@@ -11,10 +12,13 @@ pub fn flattened_is_level()
     ensures { FlattenedIsLevel }
 {}
 
-/// Nor does it with its texts laid out.
+/// Nor does what flattening makes.
 pub fn made_is_level()
     ensures { MadeIsLevel }
-{}
+{
+    flattened_is_level();
+    made_is_flattened();
+}
 
 /// And so what flattening makes of a typed, well-moded program.
 pub fn typed_is_level()
@@ -29,10 +33,13 @@ pub fn flattened_locks_stand()
     ensures { FlattenedLocksStand }
 {}
 
-/// So they do with their texts laid out.
+/// So do those of what flattening makes.
 pub fn made_locks_stand()
     ensures { MadeLocksStand }
-{}
+{
+    flattened_locks_stand();
+    made_is_flattened();
+}
 
 /// The guarded code of what flattening makes of a typed, well-moded program counts what that holds: sharc_guard's law,
 /// with its premises met.

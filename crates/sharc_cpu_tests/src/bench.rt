@@ -9,6 +9,7 @@ use crate::script::{Ask, Script};
 use sharc_code::{Cell, Code, Instr, Shape};
 use sharc_cpu::{Pause, Stop, Thread, Wait, run_quantum, thread_law};
 use sharc_heap::Kind;
+use sharc_tree::trap::Trap;
 use sharc_word::WordStep;
 use std::alloc::{AllocError, Global};
 use std::process::Abort;
@@ -22,8 +23,10 @@ pub type Registers = (i64, u64, u64);
 pub enum Then {
     /// The thread goes on, with these registers.
     Goes(Registers),
-    /// It stops, and not by a conflict.
+    /// It stops, and neither by a trap nor by a conflict.
     Stops(Stop),
+    /// It stops by this trap at this site.
+    Traps(Trap, u32),
     /// It reports a conflict at granule 4: the kind and the site of the check, the epoch, and the word found.
     Conflicts(Kind, u32, u32, u64),
     /// It waits.
@@ -32,16 +35,11 @@ pub enum Then {
     Ends,
 }
 
-/// A few instructions and the turns that are made of them: the registers before them, the steps that they ask for, and
-/// what comes of them.
-#[derive(Clone, Copy)]
-pub struct Row<'a> {
-    pub body: &'a [Instr],
-    pub turns: u32,
-    pub before: Registers,
-    pub asks: &'a [Ask],
-    pub then: Then,
-}
+/// The registers before the turns, the steps that they ask for, and what comes of them.
+pub type Case<'a> = (Registers, &'a [Ask], Then);
+
+/// A few instructions, how many of their turns ask for no step, and their cases: each other turn asks for one step.
+pub type Group<'a> = (&'a [Instr], u32, &'a [Case<'a>]);
 
 /// The number of the thread that makes the turns.
 const THREAD: u32 = 3;
@@ -141,17 +139,29 @@ fn turns(
     Ok(went)
 }
 
-// The turns of a row by a new thread.
-fn look(code: &Code, shape: &Shape, thread: &mut Thread, row: &Row) -> Result<Seen, AllocError>
+// How many turns a case has, of which so many ask for no step.
+fn turns_of(silent: u32, case: &Case) -> u32 {
+    let (_, asks, _) = *case;
+    silent.saturating_add(asks.len() as u32)
+}
+
+// The turns of a case by a new thread.
+fn look(
+    code: &Code,
+    shape: &Shape,
+    thread: &mut Thread,
+    silent: u32,
+    case: &Case,
+) -> Result<Seen, AllocError>
     requires fits { Fits code.now shape.now }
     requires words { 322 ≡ words_of shape.now }
     requires thread { IsThread code.now shape.now thread.old }
 {
-    let (int, first, second) = row.before;
-    let mut script = Script::of(row.asks, [int.cast_unsigned(), first, second]);
+    let ((int, first, second), asks, _) = *case;
+    let mut script = Script::of(asks, [int.cast_unsigned(), first, second]);
     turns(code, shape, thread, &mut script, BODY)?;
     let before = thread.made();
-    let went = turns(code, shape, thread, &mut script, row.turns)?;
+    let went = turns(code, shape, thread, &mut script, turns_of(silent, case))?;
     let events = thread.made().saturating_sub(before);
     let (asked, other) = (script.at, script.other);
     thread_law(code, shape, thread);
@@ -174,12 +184,12 @@ fn look(code: &Code, shape: &Shape, thread: &mut Thread, row: &Row) -> Result<Se
     })
 }
 
-/// What is seen of the turns of a row.
-pub fn run(alloc: Global, row: &Row) -> Result<Seen, AllocError> {
-    let code = code(alloc, instrs(alloc, row.body)?, BODY + 1)?;
+/// What is seen of the turns of a case of these instructions, of which so many ask for no step.
+pub fn run(alloc: Global, body: &[Instr], silent: u32, case: &Case) -> Result<Seen, AllocError> {
+    let code = code(alloc, instrs(alloc, body)?, BODY + 1)?;
     let shape = shape();
     let mut thread = Thread::new(alloc, &code, &shape, THREAD)?;
-    look(&code, &shape, &mut thread, row)
+    look(&code, &shape, &mut thread, silent, case)
 }
 
 fn is_stop(seen: Option<Stop>, stop: Stop) -> bool {
@@ -218,6 +228,9 @@ fn came(seen: &Seen, then: Then) -> bool {
     match then {
         Then::Goes(registers) => seen.went.last == Pause::Spent && seen.registers == registers,
         Then::Stops(stop) => seen.went.last == Pause::Stopped && is_stop(seen.stop, stop),
+        Then::Traps(trap, site) => {
+            seen.went.last == Pause::Stopped && is_stop(seen.stop, Stop::Trap(trap, site))
+        }
         Then::Conflicts(kind, site, epoch, old) => {
             seen.went.last == Pause::Stopped && is_conflict(seen.stop, kind, site, epoch, old)
         }
@@ -231,25 +244,37 @@ fn counts(turns: u32, then: Then) -> (u32, u64) {
     let others = turns.saturating_sub(1);
     match then {
         Then::Goes(_) => (turns, u64::from(turns)),
-        Then::Stops(_) | Then::Conflicts(..) | Then::Ends => (others, u64::from(turns)),
+        Then::Stops(_) | Then::Traps(..) | Then::Conflicts(..) | Then::Ends => {
+            (others, u64::from(turns))
+        }
         Then::Tries(_) => (others, u64::from(others)),
     }
 }
 
-/// Makes the turns of each row. Each turn is made by a quantum that may make one event; before it, one that may make
-/// none is answered by Spent and asks for nothing.
-pub fn walk(rt: &impl Abort, alloc: Global, rows: &[Row]) -> Result<(), Fail> {
-    for (place, row) in rows.iter().enumerate() {
-        let seen = run(alloc, row)?;
-        assert_eq!(rt; seen.other, None, "row {place}");
-        assert_eq!(rt; seen.asked, row.asks.len(), "row {place}");
-        assert!(rt; seen.went.idle, "row {place}");
-        assert!(rt; came(&seen, row.then), "row {place}");
+// Makes the turns of each case of the group at this place.
+fn walk_group(rt: &impl Abort, alloc: Global, at: usize, group: &Group) -> Result<(), Fail> {
+    let (body, silent, cases) = *group;
+    for (place, case) in cases.iter().enumerate() {
+        let (_, asks, then) = *case;
+        let seen = run(alloc, body, silent, case)?;
+        assert_eq!(rt; seen.other, None, "group {at}, case {place}");
+        assert_eq!(rt; seen.asked, asks.len(), "group {at}, case {place}");
+        assert!(rt; seen.went.idle, "group {at}, case {place}");
+        assert!(rt; came(&seen, then), "group {at}, case {place}");
         assert_eq!(rt;
             (seen.went.spent, seen.events),
-            counts(row.turns, row.then),
-            "row {place}"
+            counts(turns_of(silent, case), then),
+            "group {at}, case {place}"
         );
+    }
+    Ok(())
+}
+
+/// Makes the turns of each case of each group. Each turn is made by a quantum that may make one event; before it, one
+/// that may make none is answered by Spent and asks for nothing.
+pub fn walk(rt: &impl Abort, alloc: Global, groups: &[Group]) -> Result<(), Fail> {
+    for (at, group) in groups.iter().enumerate() {
+        walk_group(rt, alloc, at, group)?;
     }
     Ok(())
 }

@@ -2,7 +2,8 @@
 
 ghost use Rattle.std.specs.Prelude.{◌≡◌};
 
-use crate::bench::{Row, Then, walk};
+use crate::bench::Then::Goes;
+use crate::bench::walk;
 use crate::code::code;
 use sharc_code::{Cell, Instr, Shape};
 use sharc_word::WordOp;
@@ -21,14 +22,8 @@ fn steps(
     until: u64,
 ) -> Result<(), Fail> {
     let (word, op) = step;
-    let row = Row {
-        body: &[instr],
-        turns: 1,
-        before: (0, from, 12),
-        asks: &[(word, op, 1)],
-        then: Then::Goes((0, until, 12)),
-    };
-    walk(rt, alloc, &[row])
+    let case = ((0, from, 12), &[(word, op, 1)][..], Goes((0, until, 12)));
+    walk(rt, alloc, &[(&[instr], 0, &[case])])
 }
 
 /// A granule of the 75, with the words of its count, of its length and of the first cell after it; a number of no
@@ -101,14 +96,10 @@ static PLACES: [(i64, u32, u32); 6] = [
 fn cells(rt: HostRuntime) -> Result<(), Fail> {
     let cell = Cell::GlobalAt(0, 0);
     for (place, word, shadow) in &PLACES {
-        let row = Row {
-            body: &[Instr::ChkRead(cell, 7), Instr::Load(0, cell, 7)],
-            turns: 2,
-            before: (*place, 11, 12),
-            asks: &[(*shadow, Or(16), 0), (*word, Load, 6)],
-            then: Then::Goes((6, 11, 12)),
-        };
-        walk(&rt, rt.alloc(), &[row])?;
+        let body = [Instr::ChkRead(cell, 7), Instr::Load(0, cell, 7)];
+        let asks = [(*shadow, Or(16), 0), (*word, Load, 6)];
+        let case = ((*place, 11, 12), &asks[..], Goes((6, 11, 12)));
+        walk(&rt, rt.alloc(), &[(&body, 0, &[case])])?;
     }
     Ok(())
 }
@@ -127,17 +118,14 @@ static FIELDS: [(i64, u32, u32); 6] = [
 fn fields(rt: HostRuntime) -> Result<(), Fail> {
     let cell = Cell::ObjectAt(0, 0);
     for (field, word, shadow) in &FIELDS {
-        let row = Row {
-            body: &[Instr::ChkWrite(cell, 7), Instr::Store(0, cell, 7)],
-            turns: 2,
-            before: (*field, 11, 12),
-            asks: &[
-                (*shadow, Or(17), 0),
-                (*word, Swap(field.cast_unsigned()), 6),
-            ],
-            then: Then::Goes((*field, 11, 12)),
-        };
-        walk(&rt, rt.alloc(), &[row])?;
+        let registers = (*field, 11, 12);
+        let body = [Instr::ChkWrite(cell, 7), Instr::Store(0, cell, 7)];
+        let asks = [
+            (*shadow, Or(17), 0),
+            (*word, Swap(field.cast_unsigned()), 6),
+        ];
+        let case = (registers, &asks[..], Goes(registers));
+        walk(&rt, rt.alloc(), &[(&body, 0, &[case])])?;
     }
     Ok(())
 }

@@ -1,12 +1,17 @@
 //! Instructions that ask for no step.
 
-use crate::bench::{BODY, Row, Then, walk};
+use crate::bench::Then::{Ends, Goes, Traps};
+use crate::bench::{BODY, Group, Registers, walk};
+use sharc_code::Instr::{
+    Call, ChkNull, ChkPositive, ChkRoom, ChkWidth, Complement, ComputeInt, ComputeLong, Constant,
+    GlobalBounds, Jump, JumpIfNull, JumpIfZero, Move, MoveReference, NegateInt, NegateLong, Not,
+    Null, Return, SameReference,
+};
 use sharc_code::Operator::{
     Add, And, AtLeast, AtMost, Divide, Equal, Greater, Less, Multiply, NotEqual, Or, Remainder,
     ShiftLeft, ShiftRight, Subtract, Xor,
 };
 use sharc_code::{Instr, Operator, Width};
-use sharc_cpu::Stop;
 use sharc_tree::trap::Trap;
 use sharc_tree::trap::Trap::{
     CallDepth, DivisionByZero, IndexOutOfBounds, NullPointer, OutOfRange, SizeNotPositive,
@@ -18,6 +23,9 @@ use std::test::Fail;
 
 const SITE: u32 = 7;
 
+/// The registers before most turns.
+const R: Registers = (5, 11, 12);
+
 // What becomes of the first register in this many turns, or the trap.
 fn one(
     rt: &impl Abort,
@@ -28,17 +36,10 @@ fn one(
     made: Result<i64, Trap>,
 ) -> Result<(), Fail> {
     let then = match made {
-        Ok(value) => Then::Goes((value, 11, 12)),
-        Err(trap) => Then::Stops(Stop::Trap(trap, SITE)),
+        Ok(value) => Goes((value, 11, 12)),
+        Err(trap) => Traps(trap, SITE),
     };
-    let row = Row {
-        body,
-        turns,
-        before: (from, 11, 12),
-        asks: &[],
-        then,
-    };
-    walk(rt, alloc, &[row])
+    walk(rt, alloc, &[(body, turns, &[((from, 11, 12), &[], then)])])
 }
 
 /// What each operator makes of two numbers, as an `int` and as a `long`.
@@ -114,10 +115,10 @@ static COMPUTED: [(Operator, i64, i64, Result<i64, Trap>, Result<i64, Trap>); 48
 #[test]
 fn operators(rt: HostRuntime) -> Result<(), Fail> {
     for (operator, left, right, int, long) in &COMPUTED {
-        let second = Instr::Constant(1, *right);
-        let compute = Instr::ComputeInt(*operator, 0, 0, 1, SITE);
+        let second = Constant(1, *right);
+        let compute = ComputeInt(*operator, 0, 0, 1, SITE);
         one(&rt, rt.alloc(), &[second, compute], 2, *left, *int)?;
-        let compute = Instr::ComputeLong(*operator, 0, 0, 1, SITE);
+        let compute = ComputeLong(*operator, 0, 0, 1, SITE);
         one(&rt, rt.alloc(), &[second, compute], 2, *left, *long)?;
     }
     Ok(())
@@ -125,78 +126,50 @@ fn operators(rt: HostRuntime) -> Result<(), Fail> {
 
 /// What one instruction makes of one number.
 static OF_ONE: [(Instr, i64, Result<i64, Trap>); 42] = [
-    (Instr::Constant(0, i64::MIN), 5, Ok(i64::MIN)),
-    (Instr::Constant(0, i64::MAX), 5, Ok(i64::MAX)),
+    (Constant(0, i64::MIN), 5, Ok(i64::MIN)),
+    (Constant(0, i64::MAX), 5, Ok(i64::MAX)),
     // A register past the bank, of 2048 registers, is 0 and stays so.
-    (Instr::Move(0, 2048), 5, Ok(0)),
-    (Instr::Move(0, u32::MAX), 5, Ok(0)),
-    (Instr::Constant(2048, 6), 5, Ok(5)),
-    (Instr::NegateInt(0, 0, 7), 2147483647, Ok(-2147483647)),
-    (Instr::NegateInt(0, 0, 7), -2147483647, Ok(2147483647)),
-    (Instr::NegateInt(0, 0, 7), -2147483648, Err(OutOfRange)),
-    (Instr::NegateInt(0, 0, 7), 0, Ok(0)),
-    (Instr::NegateLong(0, 0, 7), -2147483648, Ok(2147483648)),
-    (
-        Instr::NegateLong(0, 0, 7),
-        i64::MAX,
-        Ok(-9223372036854775807),
-    ),
-    (Instr::NegateLong(0, 0, 7), i64::MIN, Err(OutOfRange)),
-    (Instr::Complement(0, 0), 0, Ok(-1)),
-    (Instr::Complement(0, 0), i64::MIN, Ok(i64::MAX)),
-    (Instr::Not(0, 0), 0, Ok(1)),
-    (Instr::Not(0, 0), i64::MIN, Ok(0)),
-    (Instr::Not(0, 0), 1, Ok(0)),
-    (Instr::ChkWidth(Width::Char, 0, 7), 127, Ok(127)),
-    (Instr::ChkWidth(Width::Char, 0, 7), 128, Err(OutOfRange)),
-    (Instr::ChkWidth(Width::Char, 0, 7), -128, Ok(-128)),
-    (Instr::ChkWidth(Width::Char, 0, 7), -129, Err(OutOfRange)),
-    (
-        Instr::ChkWidth(Width::Int, 0, 7),
-        2147483647,
-        Ok(2147483647),
-    ),
-    (
-        Instr::ChkWidth(Width::Int, 0, 7),
-        2147483648,
-        Err(OutOfRange),
-    ),
-    (
-        Instr::ChkWidth(Width::Int, 0, 7),
-        -2147483648,
-        Ok(-2147483648),
-    ),
-    (
-        Instr::ChkWidth(Width::Int, 0, 7),
-        -2147483649,
-        Err(OutOfRange),
-    ),
-    (Instr::ChkWidth(Width::Long, 0, 7), i64::MAX, Ok(i64::MAX)),
-    (Instr::ChkWidth(Width::Long, 0, 7), i64::MIN, Ok(i64::MIN)),
-    (Instr::ChkPositive(0, 7), 1, Ok(1)),
-    (Instr::ChkPositive(0, 7), i64::MAX, Ok(i64::MAX)),
-    (Instr::ChkPositive(0, 7), 0, Err(SizeNotPositive)),
-    (Instr::ChkPositive(0, 7), -1, Err(SizeNotPositive)),
-    (Instr::ChkPositive(0, 7), i64::MIN, Err(SizeNotPositive)),
+    (Move(0, 2048), 5, Ok(0)),
+    (Move(0, u32::MAX), 5, Ok(0)),
+    (Constant(2048, 6), 5, Ok(5)),
+    (NegateInt(0, 0, 7), 2147483647, Ok(-2147483647)),
+    (NegateInt(0, 0, 7), -2147483647, Ok(2147483647)),
+    (NegateInt(0, 0, 7), -2147483648, Err(OutOfRange)),
+    (NegateInt(0, 0, 7), 0, Ok(0)),
+    (NegateLong(0, 0, 7), -2147483648, Ok(2147483648)),
+    (NegateLong(0, 0, 7), i64::MAX, Ok(-9223372036854775807)),
+    (NegateLong(0, 0, 7), i64::MIN, Err(OutOfRange)),
+    (Complement(0, 0), 0, Ok(-1)),
+    (Complement(0, 0), i64::MIN, Ok(i64::MAX)),
+    (Not(0, 0), 0, Ok(1)),
+    (Not(0, 0), i64::MIN, Ok(0)),
+    (Not(0, 0), 1, Ok(0)),
+    (ChkWidth(Width::Char, 0, 7), 127, Ok(127)),
+    (ChkWidth(Width::Char, 0, 7), 128, Err(OutOfRange)),
+    (ChkWidth(Width::Char, 0, 7), -128, Ok(-128)),
+    (ChkWidth(Width::Char, 0, 7), -129, Err(OutOfRange)),
+    (ChkWidth(Width::Int, 0, 7), 2147483647, Ok(2147483647)),
+    (ChkWidth(Width::Int, 0, 7), 2147483648, Err(OutOfRange)),
+    (ChkWidth(Width::Int, 0, 7), -2147483648, Ok(-2147483648)),
+    (ChkWidth(Width::Int, 0, 7), -2147483649, Err(OutOfRange)),
+    (ChkWidth(Width::Long, 0, 7), i64::MAX, Ok(i64::MAX)),
+    (ChkWidth(Width::Long, 0, 7), i64::MIN, Ok(i64::MIN)),
+    (ChkPositive(0, 7), 1, Ok(1)),
+    (ChkPositive(0, 7), i64::MAX, Ok(i64::MAX)),
+    (ChkPositive(0, 7), 0, Err(SizeNotPositive)),
+    (ChkPositive(0, 7), -1, Err(SizeNotPositive)),
+    (ChkPositive(0, 7), i64::MIN, Err(SizeNotPositive)),
     // Three elements of two cells from cell 8 on, and the second field.
-    (Instr::GlobalBounds(0, 3, 2, 9, 7), 0, Ok(9)),
-    (Instr::GlobalBounds(0, 3, 2, 9, 7), 2, Ok(13)),
-    (Instr::GlobalBounds(0, 3, 2, 9, 7), 3, Err(IndexOutOfBounds)),
-    (
-        Instr::GlobalBounds(0, 3, 2, 9, 7),
-        -1,
-        Err(IndexOutOfBounds),
-    ),
-    (
-        Instr::GlobalBounds(0, 3, 2, 9, 7),
-        i64::MIN,
-        Err(IndexOutOfBounds),
-    ),
-    (Instr::GlobalBounds(0, 0, 2, 9, 7), 0, Err(IndexOutOfBounds)),
-    (Instr::ChkNull(0, 7), 5, Ok(5)),
-    (Instr::ChkNull(2, 7), 5, Err(NullPointer)),
-    (Instr::ChkNull(2048, 7), 5, Err(NullPointer)),
-    (Instr::ChkRoom(7), 5, Ok(5)),
+    (GlobalBounds(0, 3, 2, 9, 7), 0, Ok(9)),
+    (GlobalBounds(0, 3, 2, 9, 7), 2, Ok(13)),
+    (GlobalBounds(0, 3, 2, 9, 7), 3, Err(IndexOutOfBounds)),
+    (GlobalBounds(0, 3, 2, 9, 7), -1, Err(IndexOutOfBounds)),
+    (GlobalBounds(0, 3, 2, 9, 7), i64::MIN, Err(IndexOutOfBounds)),
+    (GlobalBounds(0, 0, 2, 9, 7), 0, Err(IndexOutOfBounds)),
+    (ChkNull(0, 7), 5, Ok(5)),
+    (ChkNull(2, 7), 5, Err(NullPointer)),
+    (ChkNull(2048, 7), 5, Err(NullPointer)),
+    (ChkRoom(7), 5, Ok(5)),
 ];
 
 #[test]
@@ -209,144 +182,83 @@ fn integers(rt: HostRuntime) -> Result<(), Fail> {
 
 /// References, jumps, and calls with frames that begin at the second integer and the third reference. There is no frame
 /// at first.
-static MOVED: [Row; 17] = [
-    Row {
-        body: &[Instr::MoveReference(1, 0)],
-        turns: 1,
-        before: (5, 11, 12),
-        asks: &[],
-        then: Then::Goes((5, 0, 11)),
-    },
-    Row {
-        body: &[Instr::MoveReference(0, 0)],
-        turns: 1,
-        before: (5, 11, 12),
-        asks: &[],
-        then: Then::Goes((5, 11, 12)),
-    },
-    Row {
-        body: &[Instr::Null(0)],
-        turns: 1,
-        before: (5, 11, 12),
-        asks: &[],
-        then: Then::Goes((5, 0, 12)),
-    },
-    Row {
-        body: &[Instr::SameReference(0, 0, 1)],
-        turns: 1,
-        before: (5, 0, 0),
-        asks: &[],
-        then: Then::Goes((1, 0, 0)),
-    },
-    Row {
-        body: &[Instr::SameReference(0, 0, 1)],
-        turns: 1,
-        before: (5, u64::MAX, u64::MAX),
-        asks: &[],
-        then: Then::Goes((1, u64::MAX, u64::MAX)),
-    },
-    Row {
-        body: &[Instr::SameReference(0, 0, 1)],
-        turns: 1,
-        before: (5, 11, 0),
-        asks: &[],
-        then: Then::Goes((0, 11, 0)),
-    },
-    Row {
-        body: &[Instr::Jump(BODY + 2), Instr::Null(0)],
-        turns: 1,
-        before: (5, 11, 12),
-        asks: &[],
-        then: Then::Goes((5, 11, 12)),
-    },
-    Row {
-        body: &[Instr::JumpIfZero(0, BODY + 2), Instr::Null(0)],
-        turns: 1,
-        before: (0, 11, 12),
-        asks: &[],
-        then: Then::Goes((0, 11, 12)),
-    },
-    Row {
-        body: &[Instr::JumpIfZero(0, BODY + 2), Instr::Null(0)],
-        turns: 2,
-        before: (i64::MIN, 11, 12),
-        asks: &[],
-        then: Then::Goes((i64::MIN, 0, 12)),
-    },
-    Row {
-        body: &[Instr::JumpIfNull(0, BODY + 2), Instr::Null(1)],
-        turns: 1,
-        before: (5, 0, 12),
-        asks: &[],
-        then: Then::Goes((5, 0, 12)),
-    },
-    Row {
-        body: &[Instr::JumpIfNull(0, BODY + 2), Instr::Null(1)],
-        turns: 2,
-        before: (5, 1, 12),
-        asks: &[],
-        then: Then::Goes((5, 1, 0)),
-    },
+static MOVED: [Group<'static>; 15] = [
+    (&[MoveReference(1, 0)], 1, &[(R, &[], Goes((5, 0, 11)))]),
+    (&[MoveReference(0, 0)], 1, &[(R, &[], Goes(R))]),
+    (&[Null(0)], 1, &[(R, &[], Goes((5, 0, 12)))]),
+    (
+        &[SameReference(0, 0, 1)],
+        1,
+        &[
+            ((5, 0, 0), &[], Goes((1, 0, 0))),
+            ((5, u64::MAX, u64::MAX), &[], Goes((1, u64::MAX, u64::MAX))),
+            ((5, 11, 0), &[], Goes((0, 11, 0))),
+        ],
+    ),
+    (&[Jump(BODY + 2), Null(0)], 1, &[(R, &[], Goes(R))]),
+    (
+        &[JumpIfZero(0, BODY + 2), Null(0)],
+        1,
+        &[((0, 11, 12), &[], Goes((0, 11, 12)))],
+    ),
+    (
+        &[JumpIfZero(0, BODY + 2), Null(0)],
+        2,
+        &[((i64::MIN, 11, 12), &[], Goes((i64::MIN, 0, 12)))],
+    ),
+    (
+        &[JumpIfNull(0, BODY + 2), Null(1)],
+        1,
+        &[((5, 0, 12), &[], Goes((5, 0, 12)))],
+    ),
+    (
+        &[JumpIfNull(0, BODY + 2), Null(1)],
+        2,
+        &[((5, 1, 12), &[], Goes((5, 1, 0)))],
+    ),
     // The callee's first registers are the caller's next ones.
-    Row {
-        body: &[Instr::Constant(1, 6), Instr::Call(BODY + 2, 1, 1, SITE)],
-        turns: 2,
-        before: (5, 11, 12),
-        asks: &[],
-        then: Then::Goes((6, 12, 0)),
-    },
+    (
+        &[Constant(1, 6), Call(BODY + 2, 1, 1, SITE)],
+        2,
+        &[(R, &[], Goes((6, 12, 0)))],
+    ),
     // It returns to the place after the call, and to the caller's frame.
-    Row {
-        body: &[
-            Instr::Call(BODY + 2, 1, 1, SITE),
-            Instr::Jump(BODY + 4),
-            Instr::Constant(0, 6),
-            Instr::Return(SITE),
+    (
+        &[
+            Call(BODY + 2, 1, 1, SITE),
+            Jump(BODY + 4),
+            Constant(0, 6),
+            Return(SITE),
         ],
-        turns: 4,
-        before: (5, 11, 12),
-        asks: &[],
-        then: Then::Goes((5, 11, 12)),
-    },
+        4,
+        &[(R, &[], Goes(R))],
+    ),
     // A frame may begin at the last number of a register, which is in no bank, and at no larger one.
-    Row {
-        body: &[
-            Instr::Call(BODY + 1, u32::MAX, u32::MAX, SITE),
-            Instr::Constant(0, 6),
-        ],
-        turns: 2,
-        before: (5, 11, 12),
-        asks: &[],
-        then: Then::Goes((0, 0, 0)),
-    },
-    Row {
-        body: &[
-            Instr::Call(BODY + 1, u32::MAX, 0, 8),
-            Instr::Call(BODY + 2, 1, 0, SITE),
-        ],
-        turns: 2,
-        before: (5, 11, 12),
-        asks: &[],
-        then: Then::Stops(Stop::Trap(CallDepth, SITE)),
-    },
-    Row {
-        body: &[
-            Instr::Call(BODY + 1, 0, u32::MAX, 8),
-            Instr::Call(BODY + 2, 0, 1, SITE),
-        ],
-        turns: 2,
-        before: (5, 11, 12),
-        asks: &[],
-        then: Then::Stops(Stop::Trap(CallDepth, SITE)),
-    },
+    (
+        &[Call(BODY + 1, u32::MAX, u32::MAX, SITE), Constant(0, 6)],
+        2,
+        &[(R, &[], Goes((0, 0, 0)))],
+    ),
+    (
+        &[Call(BODY + 1, u32::MAX, 0, 8), Call(BODY + 2, 1, 0, SITE)],
+        2,
+        &[(R, &[], Traps(CallDepth, SITE))],
+    ),
+    (
+        &[Call(BODY + 1, 0, u32::MAX, 8), Call(BODY + 2, 0, 1, SITE)],
+        2,
+        &[(R, &[], Traps(CallDepth, SITE))],
+    ),
     // Where there is no frame, a return leads past the code, and the thread goes.
-    Row {
-        body: &[Instr::Return(SITE)],
-        turns: 3,
-        before: (5, 11, 12),
-        asks: &[(13, WordOp::Swap(2), 1), (13, WordOp::Swap(3), 2)],
-        then: Then::Ends,
-    },
+    (
+        &[Return(SITE)],
+        1,
+        &[(
+            R,
+            &[(13, WordOp::Swap(2), 1), (13, WordOp::Swap(3), 2)],
+            Ends,
+        )],
+    ),
 ];
 
 #[test]

@@ -1,9 +1,14 @@
 //! Threads, prints and conditions.
 
-use crate::bench::{Row, Then, walk};
-use sharc_code::{Cell, Instr, Register};
-use sharc_cpu::{Stop, Wait};
-use sharc_tree::trap::Trap;
+use crate::bench::Then::{Ends, Goes, Traps, Tries};
+use crate::bench::{Group, Registers, walk};
+use sharc_code::Instr::{
+    ChkRead, ChkWrite, CondBroadcast, CondEnter, CondSignal, CondWait, Exit, Join, Print, Spawn,
+    Start,
+};
+use sharc_code::{Cell, Register};
+use sharc_cpu::Wait;
+use sharc_tree::trap::Trap::{NoSuchThread, ThreadLimit};
 use sharc_word::WordOp::{Add, Cas, Load, Or, Swap};
 use std::process::Abort;
 use std::test::Fail;
@@ -11,60 +16,55 @@ use std::test::Fail;
 /// The first cell of granule 4: its word is 180, and the shadow word 101.
 const G: Cell = Cell::Global(0, 8);
 
+/// The registers before most turns.
+const R: Registers = (5, 11, 12);
+
 /// Spawns of function 2: thread n has words 4 + 3n, 5 + 3n and 6 + 3n for its state, its function and its argument.
-static SPAWNED: [Row<'static>; 5] = [
+static SPAWNED: [Group<'static>; 2] = [
     // The last number, and the first that is none.
-    Row {
-        body: &[Instr::Spawn(0, 2, Register::Int(0), 7)],
-        turns: 4,
-        before: (5, 11, 12),
-        asks: &[
-            (2, Add(1), 30),
-            (95, Swap(2), 0),
-            (96, Swap(5), 0),
-            (94, Swap(1), 0),
+    (
+        &[Spawn(0, 2, Register::Int(0), 7)],
+        0,
+        &[
+            (
+                R,
+                &[
+                    (2, Add(1), 30),
+                    (95, Swap(2), 0),
+                    (96, Swap(5), 0),
+                    (94, Swap(1), 0),
+                ],
+                Goes((30, 11, 12)),
+            ),
+            (R, &[(2, Add(1), 31)], Traps(ThreadLimit, 7)),
+            (R, &[(2, Add(1), u64::MAX)], Traps(ThreadLimit, 7)),
+            (
+                (i64::MIN, 11, 12),
+                &[
+                    (2, Add(1), 1),
+                    (8, Swap(2), 0),
+                    (9, Swap(9223372036854775808), 0),
+                    (7, Swap(1), 0),
+                ],
+                Goes((1, 11, 12)),
+            ),
         ],
-        then: Then::Goes((30, 11, 12)),
-    },
-    Row {
-        body: &[Instr::Spawn(0, 2, Register::Int(0), 7)],
-        turns: 1,
-        before: (5, 11, 12),
-        asks: &[(2, Add(1), 31)],
-        then: Then::Stops(Stop::Trap(Trap::ThreadLimit, 7)),
-    },
-    Row {
-        body: &[Instr::Spawn(0, 2, Register::Int(0), 7)],
-        turns: 1,
-        before: (5, 11, 12),
-        asks: &[(2, Add(1), u64::MAX)],
-        then: Then::Stops(Stop::Trap(Trap::ThreadLimit, 7)),
-    },
-    Row {
-        body: &[Instr::Spawn(0, 2, Register::Int(0), 7)],
-        turns: 4,
-        before: (i64::MIN, 11, 12),
-        asks: &[
-            (2, Add(1), 1),
-            (8, Swap(2), 0),
-            (9, Swap(9223372036854775808), 0),
-            (7, Swap(1), 0),
-        ],
-        then: Then::Goes((1, 11, 12)),
-    },
+    ),
     // The reference is handed over.
-    Row {
-        body: &[Instr::Spawn(0, 2, Register::Reference(0), 7)],
-        turns: 4,
-        before: (5, 11, 12),
-        asks: &[
-            (2, Add(1), 1),
-            (8, Swap(2), 0),
-            (9, Swap(11), 0),
-            (7, Swap(1), 0),
-        ],
-        then: Then::Goes((1, 0, 12)),
-    },
+    (
+        &[Spawn(0, 2, Register::Reference(0), 7)],
+        0,
+        &[(
+            R,
+            &[
+                (2, Add(1), 1),
+                (8, Swap(2), 0),
+                (9, Swap(11), 0),
+                (7, Swap(1), 0),
+            ],
+            Goes((1, 0, 12)),
+        )],
+    ),
 ];
 
 #[test]
@@ -73,78 +73,30 @@ fn spawns(rt: HostRuntime) -> Result<(), Fail> {
 }
 
 /// Joins, and a print.
-static JOINED: [Row<'static>; 10] = [
-    Row {
-        body: &[Instr::Join(0, 7)],
-        turns: 1,
-        before: (0, 11, 12),
-        asks: &[(4, Load, 3)],
-        then: Then::Goes((0, 11, 12)),
-    },
-    Row {
-        body: &[Instr::Join(0, 7)],
-        turns: 1,
-        before: (30, 11, 12),
-        asks: &[(94, Load, 3)],
-        then: Then::Goes((30, 11, 12)),
-    },
-    Row {
-        body: &[Instr::Join(0, 7)],
-        turns: 1,
-        before: (30, 11, 12),
-        asks: &[(94, Load, 0)],
-        then: Then::Stops(Stop::Trap(Trap::NoSuchThread, 7)),
-    },
-    Row {
-        body: &[Instr::Join(0, 7)],
-        turns: 1,
-        before: (30, 11, 12),
-        asks: &[(94, Load, 1)],
-        then: Then::Tries(Wait::Join(30, 7)),
-    },
-    Row {
-        body: &[Instr::Join(0, 7)],
-        turns: 1,
-        before: (30, 11, 12),
-        asks: &[(94, Load, 2)],
-        then: Then::Tries(Wait::Join(30, 7)),
-    },
-    Row {
-        body: &[Instr::Join(0, 7)],
-        turns: 1,
-        before: (31, 11, 12),
-        asks: &[],
-        then: Then::Stops(Stop::Trap(Trap::NoSuchThread, 7)),
-    },
-    Row {
-        body: &[Instr::Join(0, 7)],
-        turns: 1,
-        before: (-1, 11, 12),
-        asks: &[],
-        then: Then::Stops(Stop::Trap(Trap::NoSuchThread, 7)),
-    },
-    Row {
-        body: &[Instr::Join(0, 7)],
-        turns: 1,
-        before: (4294967296, 11, 12),
-        asks: &[],
-        then: Then::Stops(Stop::Trap(Trap::NoSuchThread, 7)),
-    },
-    Row {
-        body: &[Instr::Join(0, 7)],
-        turns: 1,
-        before: (i64::MIN, 11, 12),
-        asks: &[],
-        then: Then::Stops(Stop::Trap(Trap::NoSuchThread, 7)),
-    },
+static JOINED: [Group<'static>; 3] = [
+    (
+        &[Join(0, 7)],
+        0,
+        &[
+            ((0, 11, 12), &[(4, Load, 3)], Goes((0, 11, 12))),
+            ((30, 11, 12), &[(94, Load, 3)], Goes((30, 11, 12))),
+            ((30, 11, 12), &[(94, Load, 0)], Traps(NoSuchThread, 7)),
+            ((30, 11, 12), &[(94, Load, 1)], Tries(Wait::Join(30, 7))),
+            ((30, 11, 12), &[(94, Load, 2)], Tries(Wait::Join(30, 7))),
+        ],
+    ),
+    (
+        &[Join(0, 7)],
+        1,
+        &[
+            ((31, 11, 12), &[], Traps(NoSuchThread, 7)),
+            ((-1, 11, 12), &[], Traps(NoSuchThread, 7)),
+            ((4294967296, 11, 12), &[], Traps(NoSuchThread, 7)),
+            ((i64::MIN, 11, 12), &[], Traps(NoSuchThread, 7)),
+        ],
+    ),
     // A print has the next place in the order of all.
-    Row {
-        body: &[Instr::Print(0, 7)],
-        turns: 1,
-        before: (5, 11, 12),
-        asks: &[(3, Add(1), u64::MAX)],
-        then: Then::Goes((5, 11, 12)),
-    },
+    (&[Print(0, 7)], 0, &[(R, &[(3, Add(1), u64::MAX)], Goes(R))]),
 ];
 
 #[test]
@@ -154,44 +106,22 @@ fn joins(rt: HostRuntime) -> Result<(), Fail> {
 
 /// Starts of thread 3: function 0 is `main`, function 1 has an integer as its parameter and function 2, the last, a
 /// reference.
-static STARTED: [Row<'static>; 5] = [
-    Row {
-        body: &[Instr::Start(7)],
-        turns: 2,
-        before: (5, 11, 12),
-        asks: &[(14, Load, 0), (15, Load, 20)],
-        then: Then::Goes((5, 11, 12)),
-    },
-    Row {
-        body: &[Instr::Start(7)],
-        turns: 2,
-        before: (5, 11, 12),
-        asks: &[(14, Load, 1), (15, Load, u64::MAX)],
-        then: Then::Goes((-1, 11, 12)),
-    },
-    Row {
-        body: &[Instr::Start(7)],
-        turns: 2,
-        before: (5, 11, 12),
-        asks: &[(14, Load, 2), (15, Load, 20)],
-        then: Then::Goes((5, 20, 12)),
-    },
-    // A number that no function has is that of `main`.
-    Row {
-        body: &[Instr::Start(7)],
-        turns: 2,
-        before: (5, 11, 12),
-        asks: &[(14, Load, 3), (15, Load, 20)],
-        then: Then::Goes((5, 11, 12)),
-    },
-    Row {
-        body: &[Instr::Start(7)],
-        turns: 2,
-        before: (5, 11, 12),
-        asks: &[(14, Load, u64::MAX), (15, Load, 20)],
-        then: Then::Goes((5, 11, 12)),
-    },
-];
+static STARTED: [Group<'static>; 1] = [(
+    &[Start(7)],
+    0,
+    &[
+        (R, &[(14, Load, 0), (15, Load, 20)], Goes(R)),
+        (
+            R,
+            &[(14, Load, 1), (15, Load, u64::MAX)],
+            Goes((-1, 11, 12)),
+        ),
+        (R, &[(14, Load, 2), (15, Load, 20)], Goes((5, 20, 12))),
+        // A number that no function has is that of `main`.
+        (R, &[(14, Load, 3), (15, Load, 20)], Goes(R)),
+        (R, &[(14, Load, u64::MAX), (15, Load, 20)], Goes(R)),
+    ],
+)];
 
 #[test]
 fn starts(rt: HostRuntime) -> Result<(), Fail> {
@@ -199,119 +129,127 @@ fn starts(rt: HostRuntime) -> Result<(), Fail> {
 }
 
 /// Ends of thread 3, whose state is word 13.
-static GONE: [Row<'static>; 8] = [
-    Row {
-        body: &[Instr::Exit],
-        turns: 2,
-        before: (5, 11, 12),
-        asks: &[(13, Swap(2), 1), (13, Swap(3), 2)],
-        then: Then::Ends,
-    },
-    Row {
-        body: &[Instr::ChkRead(G, 7), Instr::Exit],
-        turns: 5,
-        before: (5, 11, 12),
-        asks: &[
-            (101, Or(16), 0),
-            (13, Swap(2), 1),
-            (101, Load, 18),
-            (101, Cas(18, 2), 18),
-            (13, Swap(3), 2),
+static GONE: [Group<'static>; 6] = [
+    (
+        &[Exit],
+        0,
+        &[(R, &[(13, Swap(2), 1), (13, Swap(3), 2)], Ends)],
+    ),
+    (
+        &[ChkRead(G, 7), Exit],
+        0,
+        &[
+            (
+                R,
+                &[
+                    (101, Or(16), 0),
+                    (13, Swap(2), 1),
+                    (101, Load, 18),
+                    (101, Cas(18, 2), 18),
+                    (13, Swap(3), 2),
+                ],
+                Ends,
+            ),
+            // Two others read between; the Cas is tried again.
+            (
+                R,
+                &[
+                    (101, Or(16), 0),
+                    (13, Swap(2), 1),
+                    (101, Load, 16),
+                    (101, Cas(16, 0), 22),
+                    (101, Cas(22, 6), 22),
+                    (13, Swap(3), 2),
+                ],
+                Ends,
+            ),
         ],
-        then: Then::Ends,
-    },
-    // Two others read between; the Cas is tried again.
-    Row {
-        body: &[Instr::ChkRead(G, 7), Instr::Exit],
-        turns: 6,
-        before: (5, 11, 12),
-        asks: &[
-            (101, Or(16), 0),
-            (13, Swap(2), 1),
-            (101, Load, 16),
-            (101, Cas(16, 0), 22),
-            (101, Cas(22, 6), 22),
-            (13, Swap(3), 2),
-        ],
-        then: Then::Ends,
-    },
+    ),
     // The written bit goes where it is the thread's own of this epoch, and stays else.
-    Row {
-        body: &[Instr::ChkWrite(G, 7), Instr::Exit],
-        turns: 5,
-        before: (5, 11, 12),
-        asks: &[
-            (101, Or(17), 0),
-            (13, Swap(2), 1),
-            (101, Load, 17),
-            (101, Cas(17, 0), 17),
-            (13, Swap(3), 2),
+    (
+        &[ChkWrite(G, 7), Exit],
+        0,
+        &[(
+            R,
+            &[
+                (101, Or(17), 0),
+                (13, Swap(2), 1),
+                (101, Load, 17),
+                (101, Cas(17, 0), 17),
+                (13, Swap(3), 2),
+            ],
+            Ends,
+        )],
+    ),
+    (
+        &[ChkRead(G, 7), Exit],
+        0,
+        &[(
+            R,
+            &[
+                (101, Or(16), 0),
+                (13, Swap(2), 1),
+                (101, Load, 19),
+                (101, Cas(19, 3), 19),
+                (13, Swap(3), 2),
+            ],
+            Ends,
+        )],
+    ),
+    (
+        &[ChkWrite(G, 7), Exit],
+        0,
+        &[
+            (
+                R,
+                &[
+                    (101, Or(17), 0),
+                    (13, Swap(2), 1),
+                    (101, Load, 4294967299),
+                    (101, Cas(4294967299, 4294967299), 4294967299),
+                    (13, Swap(3), 2),
+                ],
+                Ends,
+            ),
+            (
+                R,
+                &[
+                    (101, Or(17), 0),
+                    (13, Swap(2), 1),
+                    (101, Load, 17),
+                    (101, Cas(17, 0), 4294967299),
+                    (101, Cas(4294967299, 4294967299), 4294967299),
+                    (13, Swap(3), 2),
+                ],
+                Ends,
+            ),
         ],
-        then: Then::Ends,
-    },
-    Row {
-        body: &[Instr::ChkRead(G, 7), Instr::Exit],
-        turns: 5,
-        before: (5, 11, 12),
-        asks: &[
-            (101, Or(16), 0),
-            (13, Swap(2), 1),
-            (101, Load, 19),
-            (101, Cas(19, 3), 19),
-            (13, Swap(3), 2),
-        ],
-        then: Then::Ends,
-    },
-    Row {
-        body: &[Instr::ChkWrite(G, 7), Instr::Exit],
-        turns: 5,
-        before: (5, 11, 12),
-        asks: &[
-            (101, Or(17), 0),
-            (13, Swap(2), 1),
-            (101, Load, 4294967299),
-            (101, Cas(4294967299, 4294967299), 4294967299),
-            (13, Swap(3), 2),
-        ],
-        then: Then::Ends,
-    },
-    Row {
-        body: &[Instr::ChkWrite(G, 7), Instr::Exit],
-        turns: 6,
-        before: (5, 11, 12),
-        asks: &[
-            (101, Or(17), 0),
-            (13, Swap(2), 1),
-            (101, Load, 17),
-            (101, Cas(17, 0), 4294967299),
-            (101, Cas(4294967299, 4294967299), 4294967299),
-            (13, Swap(3), 2),
-        ],
-        then: Then::Ends,
-    },
+    ),
     // Each granule once, in the order of the first checks.
-    Row {
-        body: &[
-            Instr::ChkRead(Cell::Global(0, 10), 7),
-            Instr::ChkRead(G, 7),
-            Instr::ChkWrite(Cell::Global(0, 10), 7),
-            Instr::Exit,
+    (
+        &[
+            ChkRead(Cell::Global(0, 10), 7),
+            ChkRead(G, 7),
+            ChkWrite(Cell::Global(0, 10), 7),
+            Exit,
         ],
-        turns: 9,
-        before: (5, 11, 12),
-        asks: &[
-            (102, Or(16), 0),
-            (101, Or(16), 0),
-            (102, Or(17), 16),
-            (13, Swap(2), 1),
-            (102, Load, 17),
-            (102, Cas(17, 0), 17),
-            (101, Load, 16),
-            (101, Cas(16, 0), 16),
-            (13, Swap(3), 2),
-        ],
-        then: Then::Ends,
-    },
+        0,
+        &[(
+            R,
+            &[
+                (102, Or(16), 0),
+                (101, Or(16), 0),
+                (102, Or(17), 16),
+                (13, Swap(2), 1),
+                (102, Load, 17),
+                (102, Cas(17, 0), 17),
+                (101, Load, 16),
+                (101, Cas(16, 0), 16),
+                (13, Swap(3), 2),
+            ],
+            Ends,
+        )],
+    ),
 ];
 
 #[test]
@@ -320,79 +258,43 @@ fn exits(rt: HostRuntime) -> Result<(), Fail> {
 }
 
 /// Waits and signals: thread 3 is bit 3 of the waiters' word.
-static CONDITIONS: [Row<'static>; 10] = [
-    Row {
-        body: &[Instr::CondEnter(G, 7)],
-        turns: 1,
-        before: (5, 11, 12),
-        asks: &[(180, Or(8), 0)],
-        then: Then::Goes((5, 11, 12)),
-    },
-    Row {
-        body: &[Instr::CondWait(G, 7)],
-        turns: 1,
-        before: (5, 11, 12),
-        asks: &[(180, Load, 0)],
-        then: Then::Goes((5, 11, 12)),
-    },
-    Row {
-        body: &[Instr::CondWait(G, 7)],
-        turns: 1,
-        before: (5, 11, 12),
-        asks: &[(180, Load, 7)],
-        then: Then::Goes((5, 11, 12)),
-    },
-    Row {
-        body: &[Instr::CondWait(G, 7)],
-        turns: 1,
-        before: (5, 11, 12),
-        asks: &[(180, Load, 8)],
-        then: Then::Tries(Wait::Cond(180, 7)),
-    },
-    Row {
-        body: &[Instr::CondWait(G, 7)],
-        turns: 1,
-        before: (5, 11, 12),
-        asks: &[(180, Load, u64::MAX)],
-        then: Then::Tries(Wait::Cond(180, 7)),
-    },
-    Row {
-        body: &[Instr::CondSignal(G, 7)],
-        turns: 1,
-        before: (5, 11, 12),
-        asks: &[(180, Load, 0)],
-        then: Then::Goes((5, 11, 12)),
-    },
-    Row {
-        body: &[Instr::CondSignal(G, 7)],
-        turns: 2,
-        before: (5, 11, 12),
-        asks: &[(180, Load, 6), (180, Cas(6, 4), 6)],
-        then: Then::Goes((5, 11, 12)),
-    },
-    // The one waiter was woken by another.
-    Row {
-        body: &[Instr::CondSignal(G, 7)],
-        turns: 2,
-        before: (5, 11, 12),
-        asks: &[(180, Load, 1073741824), (180, Cas(1073741824, 0), 0)],
-        then: Then::Goes((5, 11, 12)),
-    },
-    // A lower one came between.
-    Row {
-        body: &[Instr::CondSignal(G, 7)],
-        turns: 3,
-        before: (5, 11, 12),
-        asks: &[(180, Load, 2), (180, Cas(2, 0), 3), (180, Cas(3, 2), 3)],
-        then: Then::Goes((5, 11, 12)),
-    },
-    Row {
-        body: &[Instr::CondBroadcast(G, 7)],
-        turns: 1,
-        before: (5, 11, 12),
-        asks: &[(180, Swap(0), u64::MAX)],
-        then: Then::Goes((5, 11, 12)),
-    },
+static CONDITIONS: [Group<'static>; 4] = [
+    (&[CondEnter(G, 7)], 0, &[(R, &[(180, Or(8), 0)], Goes(R))]),
+    (
+        &[CondWait(G, 7)],
+        0,
+        &[
+            (R, &[(180, Load, 0)], Goes(R)),
+            (R, &[(180, Load, 7)], Goes(R)),
+            (R, &[(180, Load, 8)], Tries(Wait::Cond(180, 7))),
+            (R, &[(180, Load, u64::MAX)], Tries(Wait::Cond(180, 7))),
+        ],
+    ),
+    (
+        &[CondSignal(G, 7)],
+        0,
+        &[
+            (R, &[(180, Load, 0)], Goes(R)),
+            (R, &[(180, Load, 6), (180, Cas(6, 4), 6)], Goes(R)),
+            // The one waiter was woken by another.
+            (
+                R,
+                &[(180, Load, 1073741824), (180, Cas(1073741824, 0), 0)],
+                Goes(R),
+            ),
+            // A lower one came between.
+            (
+                R,
+                &[(180, Load, 2), (180, Cas(2, 0), 3), (180, Cas(3, 2), 3)],
+                Goes(R),
+            ),
+        ],
+    ),
+    (
+        &[CondBroadcast(G, 7)],
+        0,
+        &[(R, &[(180, Swap(0), u64::MAX)], Goes(R))],
+    ),
 ];
 
 #[test]

@@ -9,4 +9,4 @@ pub use Rattle.sharc_ctype.specs.{Expressions.{binary_result, class_of, constant
 pub use Rattle.sharc_mode.specs.{Cells.{cell_at as mode_in, is_behind_pointer, pointed}, Moded.Assignment, Rows.{cast_row, declared_row, row_at, written}, Sharings.{Sharing, dynamic, locked, private, racy, readonly}}
 pub use Rattle.sharc_meaning.specs.{Arithmetic.{bits_of, bits_of_base, complement, divided, fits, in_range, is_equal, is_held_by, is_zero, operated, shifted, truth}, Cells.{behind, cell_of, element_cells, field_place, field_place_behind, field_place_named, global_elements, guard_beside, guard_by, guard_named, instance_mode, mutex_named, through}, Events.{held_mutexes, holds_mutex}, Expressions.{Calls, binary_value, called, cast_value, eval, eval_all, fitting, named_value, number_named, operand, passed, place_called, place_of, place_value, resulting, spawned, taking, tested, unary_value, value_called}, Laws.SpentIsNone, Meaning.{Asked, asks as source_asks, back_in, call_value, calls, goes_away, left_at, no_frame, parameters_begin, pointers_passed, run_function, run_thread, start as source_start, with_frame}, Places.{StorePlace, access_mode, based, cast_to, cell, element, element_of_array, fetched, field_in, freed, guarding, index_place, nulled, place_named, pointee, pointee_place, stored, taken_from, variable}, Reference.{NULL, constant_value, elements_of, is_null, number_of}, State.{Frame, Out, Outcome, Run, State, Step, all_released, answer_of, answered, begins_with, done, drops, ended, ends_temporaries, ends_variables, entered, enters_with, event_of, give, gives_up, go, happens, held_by_frame, held_references, holds, holds_reference, in_block, is_reference, looks_at, moves, moves_on, new_variable, nulls, over, performs, pointers_among, reads, reads_variable, spent, stop, stopped, temporarily, then_on, unless_stop, value_in, value_of, wants, with_temporary, with_value, without_temporaries, writes, ◌>>=◌, ◌>>◌}, Statements.{Flow, broken, continued, declared, done_first, done_simple, done_step, done_test, exec_all, initialised, is_positive, left_by, loop, next, on_next, returned, right_value, turns}, Waiting.{broadcast_call, cell_at_place, gives_up_base, lock_call, moves_base, signal_call, unlock_call, wait_call}, declared.given.GivenUp.GivenUp, declared.given.GivenUp.TheVariants.{Emptied, Released, Replaced}, declared.variable.Variable.Variable}
 pub use Rattle.sharc_code.specs.{Arithmetic.{computed, negated, word_of}, Machine.{elements_of as elements_made, no_function}, Path.{most_ints, most_refs}, Says.no_global, declared.code.Function.{Function as Row}, declared.code.GlobalCells.GlobalCells, declared.code.Parameter.Parameter, declared.code.PlaceMode.PlaceMode, declared.code.PlaceMode.TheVariants.{Dynamic, LockedGlobal, LockedLoaded, LockedSibling, LockedThrough, Private, Racy, Readonly}, declared.code.Text.Text, declared.code.Use.Use, declared.code.Use.TheVariants.Other, declared.instr.Cell.Cell, declared.instr.Register.Register, declared.instr.Register.TheVariants.{Int, Reference}, declared.instr.Width.Width}
-pub use Rattle.sharc_flat.specs.{Correct.{AsksTheSame, Back, Forth, MayStart, ProgramSuits, SameAs}, Flattened.{AreRows, Around, IsFlattened, IsRow, argument_words, arguments_code, around_body, behind_first, behind_int, behind_ref, behind_statement, behind_statements, binary_code, body_at, called_code, cast_code, choice_code, compare_code, condition_code, constant_code, declared_lvalue, differ_code, drop_code, either_code, elements_code, expression_code, field_code, first_cell_of, first_code, flattened, function_code, functions_code, guard_of, if_code, in_function, initial_code, ints_of, is_ref, jump_code, kind_of, layout_of, local_code, logical_code, loop_code, looping, lvalue_code, lvalue_in, mode_of, named_code, opened, operator_of, parameter_of, parameters_scope, passed_code, place_call_code, place_code, refs_of, result_code, return_code, right_code, row_of, rows_of, sides_code, simple_code, spawn_code, statement_code, statements_code, step_code, taken_guard, target_of, test_code, truth_code, turn_code, turns_code, unary_code, unary_place_code, unlocked_code, value_call_code, wait_code, what_names, with_variable, with_words, zero_code}, Flattens.{Flattens, names_of}, Framed.{BaseWithin, HandedWithin, HasParameter, InLine, IsFlat, IsFramed, IsFramedAt, IsInGlobal, IsWide, Leads, OpLeads, OpWrites}, Frames.{base_need, handed_need, int_need, ints_in, ref_need, refs_in}, Laid.{AreLaid, AreNamed, IsLaid, IsNamed, Lays, told_by, with_texts}, Laws.{FitsFrames, FitsMade, GlobalsLieApart}, Machine.{At, Caller, Came, Flat, Turn, accessed, accesses, asks, asserts, base_of, begun, called as called_at, cell_at, cell_mode_of, end_turn, exec, first_at, first_cell, function_of, gives_up as also, global_cell, goes, goes_on, halts, handed, indexed, instance_mode as mode_of_object, is_of_null, line_turn, lock_is_null, moved, next as on, on_answer, on_turn, op_turn, over_lines, put, ref, set_int, set_ref, start, stops, take_kind_of, takes_local, turn, variable_of, with_event, with_result, without_base}, Made.flat_of, Path.{IsPath, PathsAreRuns, after, asked, asked_by, at_after, may_go}, Places.{Target, base_as_width, base_width, beside_field, bounds_code, cell_store_code, cell_take_code, cell_value_code, copy_code, drop_base, field_of, global_of, guard_cell, guard_code, guard_field, guard_width, has_base, in_global, in_global_at, in_object, in_object_at, index_code, index_width, lock_beside, lvalue_of, mode_beside, mode_named, object_mode, object_mode_named, object_spot, own_field, place_mode, pointee_code, settle_base, settle_code, spot_of, store_code, take_code, take_use, target, value_code, width_code, width_of}, Scope.{Context, at_site, at_words, ends_from, int_count, leaves, no_text, number_in, pops, ref_count, register_from, register_of, slot_kind, slot_of, tokens_in}, Suits.{ArgumentsSuit, CallSuits, CountSuits, Either, FieldSuits, FirstSuits, HandsOn, IfThere, InitialSuits, LeftSuits, NameSuits, OperandsSuit, PathNamed, PathStands, PlaceSuits, ReferencesSuit, RightSuits, SimpleSuits, StatementSuits, StatementsSuit, Suits, TakeSuits, TestSuits, behind_declaration, in_first, in_statement, is_cell, is_declaration, kind_in}, Tables.{cells_in, globals_from, globals_of, granules_in}, declared.flat.Flat.{Flat as FlatCode}, declared.op.Op.Op, declared.op.Spot.Spot, declared.slot.Lvalue.Lvalue, declared.slot.Slot.Slot}
+pub use Rattle.sharc_flat.specs.{Correct.{AsksTheSame, Back, Forth, MayStart, ProgramSuits, SameAs}, Flattened.{AreRows, Around, IsFlattened, IsRow, argument_words, arguments_code, around_body, behind_first, behind_int, behind_ref, behind_statement, behind_statements, binary_code, body_at, called_code, cast_code, choice_code, compare_code, condition_code, constant_code, declared_lvalue, differ_code, drop_code, either_code, elements_code, expression_code, field_code, first_cell_of, first_code, flattened, function_code, functions_code, guard_of, if_code, in_function, initial_code, ints_of, is_ref, jump_code, kind_of, layout_of, local_code, logical_code, loop_code, looping, lvalue_code, lvalue_in, mode_of, named_code, opened, operator_of, parameter_of, parameters_scope, passed_code, place_call_code, place_code, refs_of, result_code, return_code, right_code, row_of, rows_of, sides_code, simple_code, spawn_code, statement_code, statements_code, step_code, taken_guard, target_of, test_code, truth_code, turn_code, turns_code, unary_code, unary_place_code, unlocked_code, value_call_code, wait_code, what_names, with_variable, with_words, zero_code}, Flattens.{Flattens, names_of}, Framed.{BaseWithin, HandedWithin, HasParameter, InLine, IsFlat, IsFramed, IsFramedAt, IsInGlobal, IsWide, Leads, OpLeads, OpWrites}, Frames.{base_need, handed_need, int_need, ints_in, ref_need, refs_in}, Laid.{AreNamed, IsNamed}, Laws.{FitsFrames, FitsMade, GlobalsLieApart}, Machine.{At, Caller, Came, Flat, Turn, accessed, accesses, asks, asserts, base_of, begun, called as called_at, cell_at, cell_mode_of, end_turn, exec, first_at, first_cell, function_of, gives_up as also, global_cell, goes, goes_on, halts, handed, indexed, instance_mode as mode_of_object, is_of_null, line_turn, lock_is_null, moved, next as on, on_answer, on_turn, op_turn, over_lines, put, ref, set_int, set_ref, start, stops, take_kind_of, takes_local, turn, variable_of, with_event, with_result, without_base}, Made.flat_of, Path.{IsPath, PathsAreRuns, after, asked, asked_by, at_after, may_go}, Places.{Target, base_as_width, base_width, beside_field, bounds_code, cell_store_code, cell_take_code, cell_value_code, copy_code, drop_base, field_of, global_of, guard_cell, guard_code, guard_field, guard_width, has_base, in_global, in_global_at, in_object, in_object_at, index_code, index_width, lock_beside, lvalue_of, mode_beside, mode_named, object_mode, object_mode_named, object_spot, own_field, place_mode, pointee_code, settle_base, settle_code, spot_of, store_code, take_code, take_use, target, value_code, width_code, width_of}, Scope.{Context, at_site, at_words, ends_from, int_count, leaves, no_text, number_in, pops, ref_count, register_from, register_of, slot_kind, slot_of, tokens_in}, Suits.{ArgumentsSuit, CallSuits, CountSuits, Either, FieldSuits, FirstSuits, HandsOn, IfThere, InitialSuits, LeftSuits, NameSuits, OperandsSuit, PathNamed, PathStands, PlaceSuits, ReferencesSuit, RightSuits, SimpleSuits, StatementSuits, StatementsSuit, Suits, TakeSuits, TestSuits, behind_declaration, in_first, in_statement, is_cell, is_declaration, kind_in}, Tables.{cells_in, globals_from, globals_of, granules_in}, declared.flat.Flat.{Flat as FlatCode}, declared.op.Op.Op, declared.op.Spot.Spot, declared.slot.Lvalue.Lvalue, declared.slot.Slot.Slot}

@@ -36,6 +36,5 @@ pub mod Keeping
 pub mod Knowing
 pub mod Flattening
 pub mod Framed
-pub mod Laying
 pub mod Apart
 pub mod MadeFramed

@@ -523,7 +523,7 @@ AreRows m globals pc (f ∷ rest) [] = ⊥
 AreRows m globals pc (f ∷ rest) (row ∷ rows) =
     IsRow m globals pc f row × AreRows m globals (pc + length (function_code m globals pc f)) rest rows
 
--- flat code is that of a program, with texts that are given by tokens
+-- flat code is that of a program
 pub record IsFlattened (m : Assignment) (flat : Flat) : Type 0 where
   pub lines : flat.lines ≡ functions_code m flat.globals 0 (functions_in m.typed.program.items)
   pub functions : AreRows m flat.globals 0 (functions_in m.typed.program.items) flat.functions
@@ -547,6 +547,7 @@ rows_of m globals pc (f ∷ rest) =
 abbrev pub flattened : Assignment → List GlobalCells → Flat
 flattened m globals = record {
   lines = functions_code m globals 0 (functions_in m.typed.program.items);
+  told = [];
   functions = rows_of m globals 0 (functions_in m.typed.program.items);
   globals = globals;
 }

@@ -3,7 +3,8 @@ use Rattle.std.specs.Prelude.{◌≡◌, ℕ, List, [], ◌∷◌, map, Some, co
 use Rattle.sharc_tree.specs.Tree.{Function}
 use Rattle.sharc_ctype.specs.Resolved.{function_at, functions_in, globals_in}
 use Rattle.sharc_mode.specs.Moded.{Assignment}
-use Rattle.sharc_flat.specs.{declared.flat.Flat.{Flat as FlatCode}, Made.flat_of, Flattened.flattened, Laid.Lays}
+use Rattle.sharc_flat.specs.{declared.flat.Flat.{Flat as FlatCode}, Laid.{AreTold, AreNamed}}
+use Rattle.sharc_flat.specs.Flattened.{functions_code, rows_of}
 use Rattle.sharc_flat.specs.Tables.{globals_of, all_granules, all_first_words, layouts_of, pointers_of}
 
 abbrev pub names_of : List Function → List (List ℕ)
@@ -13,10 +14,13 @@ names_of = map (λ f. f.name.text)
 abbrev pub IsMainOf : Assignment → ℕ → Type 0
 IsMainOf m n = (f : Function) × (function_at m.typed n ≡ Some f) × (f.name.text ≡ codes "main")
 
--- its lines and functions with their texts laid out, and the tables beside them
+-- its lines with where their texts lie, its functions with their names, and the tables beside them
 pub record Flattens (m : Assignment) (code : FlatCode) : Type 0 where
-  pub lays : Lays m.typed code.texts.items (names_of (functions_in m.typed.program.items))
-      (flattened m (globals_of m.typed)) (flat_of code)
+  pub lines : code.lines.items ≡ functions_code m (globals_of m.typed) 0 (functions_in m.typed.program.items)
+  pub told : AreTold m.typed code.texts.items code.lines.items code.told.items
+  pub functions : AreNamed code.texts.items (rows_of m (globals_of m.typed) 0 (functions_in m.typed.program.items))
+      (names_of (functions_in m.typed.program.items)) code.functions.items
+  pub globals : code.globals.items ≡ globals_of m.typed
   pub main : IsMainOf m code.main
   pub granules : code.granules ≡ all_granules m.typed (globals_in m.typed.program.items)
   pub initial : code.initial.items ≡ all_first_words m.typed (globals_in m.typed.program.items)

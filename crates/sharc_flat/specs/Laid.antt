@@ -1,4 +1,4 @@
--- Texts where they lie: the same code, with the places of its texts among the bytes of all texts.
+-- Texts where they lie: the texts of lines and the names of functions among the bytes of all texts.
 use Rattle.std.specs.Prelude.{◌≡◌, ℕ, ◌+◌, ◌-◌, ◌<◌, ◌≤◌, List, [], ◌∷◌, ◌++◌, length, slice_get, slice_range, Option}
 use Rattle.std.specs.Prelude.{Some, None, codes}
 use Rattle.sharc_tree.specs.{declared.tree.declaration.Declaration.Declaration, Texts.tokens_text}
@@ -10,63 +10,10 @@ use Rattle.sharc_names.specs.declared.fault.Named.{Named}
 use Rattle.sharc_names.specs.declared.fault.Named.TheVariants as named
 use Rattle.sharc_ctype.specs.Resolved.{Resolution, named_at, declaration_at}
 use Rattle.sharc_mode.specs.{Sharings.text_at, WellFormed.fields_behind}
-use Rattle.sharc_flat.specs.{declared.op.Op.Op, declared.op.Spot.Spot, Machine.Flat}
+use Rattle.sharc_flat.specs.{declared.flat.LineTexts.LineTexts, declared.op.Op.Op, declared.op.Spot.Spot}
 use Rattle.sharc_flat.specs.declared.op.Op.TheVariants as op
 
--- ---- operations with other texts
-abbrev pub told_by : Text → Text → Spot → Spot
-told_by lv lk spot = record spot { lvalue = lv; lock_text = lk }
-
-abbrev pub with_texts : Text → Text → Op → Op
-with_texts lv lk op.Enter = op.Enter
-with_texts lv lk (op.Constant i v) = op.Constant i v
-with_texts lv lk (op.Move i from) = op.Move i from
-with_texts lv lk (op.Compute width o i a b spot) = op.Compute width o i a b (told_by lv lk spot)
-with_texts lv lk (op.Negate width i a spot) = op.Negate width i a (told_by lv lk spot)
-with_texts lv lk (op.Complement i a) = op.Complement i a
-with_texts lv lk (op.IsFalse i a) = op.IsFalse i a
-with_texts lv lk (op.SameReference i a b) = op.SameReference i a b
-with_texts lv lk (op.ChkWidth width i spot) = op.ChkWidth width i (told_by lv lk spot)
-with_texts lv lk (op.Skip n) = op.Skip n
-with_texts lv lk (op.SkipIfZero i n) = op.SkipIfZero i n
-with_texts lv lk (op.SkipIfNull r n) = op.SkipIfNull r n
-with_texts lv lk (op.Jump to) = op.Jump to
-with_texts lv lk (op.Call f ints refs spot) = op.Call f ints refs (told_by lv lk spot)
-with_texts lv lk (op.Return spot) = op.Return (told_by lv lk spot)
-with_texts lv lk op.BlockEnd = op.BlockEnd
-with_texts lv lk (op.Null r) = op.Null r
-with_texts lv lk (op.Local r x) = op.Local r x
-with_texts lv lk (op.MoveReference r from) = op.MoveReference r from
-with_texts lv lk (op.Pop r) = op.Pop r
-with_texts lv lk (op.Settle x from) = op.Settle x from
-with_texts lv lk (op.ChkNull r spot) = op.ChkNull r (told_by lv lk spot)
-with_texts lv lk (op.ChkPositive i spot) = op.ChkPositive i (told_by lv lk spot)
-with_texts lv lk (op.ChkHeld cell spot) = op.ChkHeld cell (told_by lv lk spot)
-with_texts lv lk (op.ChkNotHeld cell spot) = op.ChkNotHeld cell (told_by lv lk spot)
-with_texts lv lk (op.ChkRoom spot) = op.ChkRoom (told_by lv lk spot)
-with_texts lv lk (op.Bounds i r cells field spot) = op.Bounds i r cells field (told_by lv lk spot)
-with_texts lv lk (op.GlobalBounds i elements cells field spot) =
-    op.GlobalBounds i elements cells field (told_by lv lk spot)
-with_texts lv lk (op.Load i cell spot) = op.Load i cell (told_by lv lk spot)
-with_texts lv lk (op.Store i cell spot) = op.Store i cell (told_by lv lk spot)
-with_texts lv lk (op.LoadRef r cell spot) = op.LoadRef r cell (told_by lv lk spot)
-with_texts lv lk (op.StoreRef r cell spot) = op.StoreRef r cell (told_by lv lk spot)
-with_texts lv lk (op.LoadGuard cell spot) = op.LoadGuard cell (told_by lv lk spot)
-with_texts lv lk (op.New r count cells spot) = op.New r count cells (told_by lv lk spot)
-with_texts lv lk (op.TakeCell r cell spot) = op.TakeCell r cell (told_by lv lk spot)
-with_texts lv lk (op.TakeLocal r x spot) = op.TakeLocal r x (told_by lv lk spot)
-with_texts lv lk (op.Give r cells spot) = op.Give r cells (told_by lv lk spot)
-with_texts lv lk (op.Free r layout spot) = op.Free r layout (told_by lv lk spot)
-with_texts lv lk (op.Lock cell spot) = op.Lock cell (told_by lv lk spot)
-with_texts lv lk (op.Unlock r cell spot) = op.Unlock r cell (told_by lv lk spot)
-with_texts lv lk (op.CondEnter cell spot) = op.CondEnter cell (told_by lv lk spot)
-with_texts lv lk (op.CondWait cell spot) = op.CondWait cell (told_by lv lk spot)
-with_texts lv lk (op.CondSignal cell spot) = op.CondSignal cell (told_by lv lk spot)
-with_texts lv lk (op.CondBroadcast cell spot) = op.CondBroadcast cell (told_by lv lk spot)
-with_texts lv lk (op.Spawn i f from spot) = op.Spawn i f from (told_by lv lk spot)
-with_texts lv lk (op.Join i spot) = op.Join i (told_by lv lk spot)
-with_texts lv lk (op.Print i spot) = op.Print i (told_by lv lk spot)
-
+-- ---- what an operation is in the source, if it has a spot
 abbrev pub spot_in : Op → Option Spot
 spot_in op.Enter = None
 spot_in (op.Constant i v) = None
@@ -148,25 +95,25 @@ lock_text_of r _ lvalue lock = []
 abbrev pub lies_at : List ℕ → Text → List ℕ
 lies_at bytes text = slice_range bytes text.from text.until
 
--- both texts of a spot lie where these say
-pub record AreTexts (r : Resolution) (bytes : List ℕ) (spot : Spot) (a b : Text) : Type 0 where
-  pub lvalue : lies_at bytes a ≡ words_of r spot.lvalue.from spot.lvalue.until
-  pub lock : lies_at bytes b ≡ lock_text_of r spot.mode spot.lvalue spot.lock_text
+-- the texts of an operation, by its spot; of one without a spot they are empty
+abbrev pub lvalue_bytes : Resolution → Option Spot → List ℕ
+lvalue_bytes r None = []
+lvalue_bytes r (Some spot) = words_of r spot.lvalue.from spot.lvalue.until
 
-abbrev pub AreTextsIn : Resolution → List ℕ → Option Spot → Text → Text → Type 0
-AreTextsIn r bytes None a b = Unit {0}
-AreTextsIn r bytes (Some spot) a b = AreTexts r bytes spot a b
+abbrev pub lock_bytes : Resolution → Option Spot → List ℕ
+lock_bytes r None = []
+lock_bytes r (Some spot) = lock_text_of r spot.mode spot.lvalue spot.lock_text
 
-pub record IsLaid (r : Resolution) (bytes : List ℕ) (told made : Op) : Type 0 where
-  pub lvalue : Text
-  pub lock : Text
-  pub is : made ≡ with_texts lvalue lock told
-  pub texts : AreTextsIn r bytes (spot_in told) lvalue lock
+-- they lie where these say
+pub record AreTexts (r : Resolution) (bytes : List ℕ) (spot : Option Spot) (told : LineTexts) : Type 0 where
+  pub lvalue : lies_at bytes told.lvalue ≡ lvalue_bytes r spot
+  pub lock : lies_at bytes told.lock ≡ lock_bytes r spot
 
-abbrev pub AreLaid : Resolution → List ℕ → List Op → List Op → Type 0
-AreLaid r bytes [] [] = Unit {0}
-AreLaid r bytes (o ∷ os) (p ∷ ps) = IsLaid r bytes o p × AreLaid r bytes os ps
-AreLaid r bytes _ _ = ⊥
+-- those of each line
+abbrev pub AreTold : Resolution → List ℕ → List Op → List LineTexts → Type 0
+AreTold r bytes [] [] = Unit {0}
+AreTold r bytes (o ∷ os) (t ∷ ts) = AreTexts r bytes (spot_in o) t × AreTold r bytes os ts
+AreTold r bytes _ _ = ⊥
 
 -- the functions with their names where they lie
 pub record IsNamed (bytes : List ℕ) (told made : Row) (name : List ℕ) : Type 0 where
@@ -178,9 +125,3 @@ abbrev pub AreNamed : List ℕ → List Row → List (List ℕ) → List Row →
 AreNamed bytes [] [] [] = Unit {0}
 AreNamed bytes (x ∷ xs) (n ∷ ns) (y ∷ ys) = IsNamed bytes x y n × AreNamed bytes xs ns ys
 AreNamed bytes _ _ _ = ⊥
-
--- flat code with its texts laid out
-pub record Lays (r : Resolution) (bytes : List ℕ) (names : List (List ℕ)) (told made : Flat) : Type 0 where
-  pub lines : AreLaid r bytes told.lines made.lines
-  pub functions : AreNamed bytes told.functions names made.functions
-  pub globals : made.globals ≡ told.globals

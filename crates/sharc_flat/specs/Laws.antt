@@ -5,7 +5,7 @@ use Rattle.sharc_mode.specs.Moded.{Assignment}
 use Rattle.sharc_flat.specs.declared.op.Op.TheVariants as op
 use Rattle.sharc_flat.specs.{declared.op.Spot.Spot, Framed.{IsInGlobal, IsFlat, IsFramed}, Machine.Flat}
 use Rattle.sharc_flat.specs.{declared.flat.Flat.{Flat as FlatCode}, Made.flat_of, Correct.{ProgramSuits, AsksTheSame}}
-use Rattle.sharc_flat.specs.{Flattened.IsFlattened, Flattens.Flattens, Laid.Lays, Tables.globals_of}
+use Rattle.sharc_flat.specs.{Flattened.IsFlattened, Flattens.Flattens, Tables.globals_of}
 use Rattle.sharc_ctype.specs.Resolved.{Resolution}
 
 abbrev pub FlattenedAsksTheSame : Type 0
@@ -28,10 +28,9 @@ abbrev pub IsThereCode : Type 0
 IsThereCode = (m : Assignment) (globals : List GlobalCells)
     → (flat : Flat) × IsFlattened m flat × (flat.globals ≡ globals)
 
--- what is said of code whose texts are given holds of code with its texts where they lie
-abbrev pub LaidAsksTheSame : Type 0
-LaidAsksTheSame = (m : Assignment) (bytes : List ℕ) (names : List (List ℕ)) (told made : Flat)
-    → Lays m.typed bytes names told made → AsksTheSame m told → AsksTheSame m made
+-- what flattening makes is flat code of its program
+abbrev pub MadeIsFlattened : Type 0
+MadeIsFlattened = (m : Assignment) → (code : FlatCode) → Flattens m code → IsFlattened m (flat_of code)
 
 -- what flattening makes asks for what the source asks for
 abbrev pub MadeAsksTheSame : Type 0

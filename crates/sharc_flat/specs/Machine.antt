@@ -29,12 +29,14 @@ use Rattle.sharc_meaning.specs.{Arithmetic.{is_zero, is_equal}, Cells.{cell_of, 
 use Rattle.sharc_meaning.specs.{Events.{held_mutexes, holds_mutex}, Reference.{is_null, number_of, elements_of}}
 use Rattle.sharc_meaning.specs.State.{Outcome, wants, ended, stopped, spent, event_of, answer_of}
 use Rattle.sharc_meaning.specs.Statements.{is_positive}
-use Rattle.sharc_flat.specs.{declared.op.Op.Op, declared.op.Spot.Spot}
+use Rattle.sharc_flat.specs.{declared.flat.LineTexts.LineTexts, declared.op.Op.Op, declared.op.Spot.Spot}
 use Rattle.sharc_flat.specs.declared.op.Op.TheVariants as op
 
--- the statements of all functions, with the functions and the globals by their numbers
+-- the statements of all functions, with where their texts lie, which no turn looks at; the functions and the globals by
+-- their numbers
 pub record Flat : Type 0 where
   pub lines : List Op
+  pub told : List LineTexts
   pub functions : List Function
   pub globals : List GlobalCells
 

@@ -155,8 +155,8 @@ bare_token e = (span_of e).first.token
 abbrev pub lvalue_of : Resolution → Expression → Lvalue
 lvalue_of r e = record { words = span_of e; bare = bare_token e; is_simple = is_simple_place r e }
 
--- Until it is laid out, the text of a lock is given by two tokens: that of the lvalue without the parentheses around
--- it, and that of its first name.
+-- The text of a lock is given by two tokens: that of the lvalue without the parentheses around it, and that of its
+-- first name.
 abbrev pub lock_words : Lvalue → Sharing → Text
 lock_words lvalue (locked l) = record { from = lvalue.bare; until = l.first }
 lock_words lvalue _ = no_text

@@ -49,7 +49,7 @@ pub record Context : Type 0 where
   pub globals : List GlobalCells
   pub scope : List Slot
 
--- Until it is laid out, a text is given by tokens: those from the first number up to the second.
+-- A text of an operation is given by tokens: those from the first number up to the second.
 abbrev pub no_text : Text
 no_text = record { from = 0; until = 0 }
 

@@ -1,7 +1,7 @@
 //! Laws of flattened code.
 
 ghost use Rattle.sharc_flat.specs.Laws.{FlattenedAsksTheSame, FlattenedIsFramed, GlobalsLieApart, IsThereCode};
-ghost use Rattle.sharc_flat.specs.Laws.{LaidAsksTheSame, MadeAsksTheSame, MadeIsFramed};
+ghost use Rattle.sharc_flat.specs.Laws.{MadeAsksTheSame, MadeIsFlattened, MadeIsFramed};
 
 use sharc_meaning::laws::ask_laws;
 
@@ -22,9 +22,9 @@ pub fn is_there_code()
     ensures { IsThereCode }
 {}
 
-/// What is said of code whose texts are given holds of code with its texts where they lie.
-pub fn laid_asks_the_same()
-    ensures { LaidAsksTheSame }
+/// What flattening makes is flat code of its program.
+pub fn made_is_flattened()
+    ensures { MadeIsFlattened }
 {}
 
 /// What flattening makes asks for what the source asks for.

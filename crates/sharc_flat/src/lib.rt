@@ -20,5 +20,5 @@ pub mod laws;
 mod op;
 pub mod slot;
 
-pub use flat::Flat;
+pub use flat::{Flat, LineTexts};
 pub use op::{Op, Spot};

@@ -1,5 +1,5 @@
 -- Each expression of a typed program suits.
-use Rattle.sharc_flat_laws.proofs.{Imports.{◌≡◌, inl, inr, ℕ, Bool, true, false, List, refl, ap, sym, ◌∙◌, subst, Option, Some, None, if◌then◌else◌, false≢true, AllByRecursion, Identifier, Constant, NumberType, is_lvalue, expressions, Expression, Function, Kind, array, is_array, is_integer, is_pointer, declared_kind, constant_kind, number_kind, Resolution, kind_at, function_at, variable_kind, is_aggregate, Assignment, Sharing, is_reference, HasType, Callee, of_program, of_conditions, IsInteger, IsPointer, Common, both_shorter, a_variable, a_global, a_function, a_constant, in_parentheses, element_of_pointer, element_of_array, a_call, a_field, a_field_behind, negated, complemented, pointed_to, arithmetic, shifted, a_cast, IsHeld, Target, variable, in_global, in_global_at, in_object_at, target, named_target, own_field, global_of, Context, slot_kind, TakeSuits, LeftSuits, PathStands, is_cell, AtPlace, GlobalsUnguarded, no}, Sorts.{integer_yes, pointer_reference, pointer_plain, declared_reference, held_same}}
+use Rattle.sharc_flat_laws.proofs.{Imports.{◌≡◌, inl, inr, ℕ, Bool, true, false, List, refl, ap, sym, ◌∙◌, subst, Option, Some, None, if◌then◌else◌, false≢true, AllByRecursion, Identifier, Constant, NumberType, is_lvalue, expressions, Expression, Function, Kind, is_array, is_integer, is_pointer, declared_kind, constant_kind, number_kind, Resolution, kind_at, function_at, variable_kind, is_aggregate, Assignment, Sharing, is_reference, HasType, Callee, of_program, of_conditions, IsInteger, IsPointer, Common, both_shorter, a_variable, a_global, a_function, a_constant, in_parentheses, element_of_pointer, element_of_array, a_call, a_field, a_field_behind, negated, complemented, pointed_to, arithmetic, shifted, a_cast, IsHeld, Target, variable, in_global, in_global_at, in_object_at, target, named_target, own_field, global_of, Context, slot_kind, TakeSuits, LeftSuits, PathStands, is_cell, AtPlace, GlobalsUnguarded, no}, Sorts.{integer_yes, pointer_reference, pointer_plain, declared_reference, held_same}}
 use Rattle.sharc_names.specs.Kinds as kinds
 
 -- what is known of the program

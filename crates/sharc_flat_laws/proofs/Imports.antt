@@ -10,5 +10,5 @@ pub use Rattle.sharc_ctype_laws.specs.{Constraints.{Assignable, Callee, Common, 
 pub use Rattle.sharc_mode.specs.{Cells.{cell_at, declared_cell, field_named, first_mode, first_of, global_cell, instance, is_behind_pointer, is_mutex_kind, named_cell, pointed, top_of, unary_cell, written_cell}, Expressions.items_notes, Flows.{IsLeastAssignment, mode_found}, Moded.{Assignment, mode_at}, Notes.{errors_by, mode_notes, names_in_level, path_notes, private_field_notes, private_notes, type_notes}, Rows.{PathReading, Targets, base_use, called_row, constant_row, constant_use, declared_row, deeper, entity_row, global_row, is_constant_named, named_row, no_row, read, reading_through, result_row, row_at, targets_from, through, unary_row, written}, Settled.{field_target, is_mutex, otherwise_of, settled, settled_at, settled_in, settled_modes}, Sharings.{Lock, Sharing, is_field, is_private, is_sibling_lock, lock_of, locked, private, racy, readonly, sharing_of, text_at}, WellFormed.{allows_path, allows_pointer, first_unfit_mode, first_unfit_path, leaves_open, path_fits, place_of, top_path_fits, unfit_path, unfit_path_in, unfit_top_path, unless}, WellModed.{WellModed, notes_about, spawned_notes, touched_notes}, declared.finding.Finding.Finding, declared.place.Place.Place, declared.place.Place.TheVariants.{Field, Global, Result}}
 pub use Rattle.sharc_meaning.specs.{Cells.{element_cells, field_place, field_place_named, global_elements}, Expressions.number_named, Reference.constant_value, State.is_reference, Store.form_value}
 pub use Rattle.sharc_code.specs.{Arithmetic.word_of, Ranges.{GlobalsFit, end_place, first_place}, Says.no_global, declared.code.Function.{Function as Row}, declared.code.GlobalCells.GlobalCells, declared.code.Text.Text, declared.code.Use.Use, declared.instr.Register.Register, declared.instr.Register.TheVariants.Reference}
-pub use Rattle.sharc_flat.specs.{Flattened.{argument_words, arguments_code, around_body, behind_int, behind_ref, behind_statement, behind_statements, binary_code, body_at, called_code, cast_code, compare_code, condition_code, declared_lvalue, differ_code, drop_code, either_code, elements_code, expression_code, field_code, first_code, function_code, functions_code, guard_of, in_function, initial_code, ints_of, is_ref, jump_code, kind_of, local_code, logical_code, lvalue_code, lvalue_in, mode_of, named_code, parameters_scope, passed_code, place_call_code, place_code, refs_of, result_code, return_code, right_code, rows_of, simple_code, statement_code, statements_code, step_code, taken_guard, target_of, test_code, truth_code, turn_code, turns_code, unary_code, unary_place_code, value_call_code, wait_code, what_names, with_variable, with_words, zero_code}, Flattens.names_of, Laid.{AreLaid, AreNamed, with_texts}, Machine.first_cell, Places.{Target, base_width, bounds_code, cell_store_code, cell_take_code, cell_value_code, copy_code, drop_base, global_of, guard_code, guard_field, guard_named, has_base, in_global, in_global_at, in_object_at, index_code, index_width, named_target, own_field, pointee_code, settle_base, settle_code, store_code, take_code, target, value_code, variable, width_code}, Scope.{Context, at_site, ends_from, leaves, pops, ref_count, register_of, slot_kind, slot_of}, Suits.{ArgumentsSuit, CallSuits, Either, FirstSuits, Goes, HandsOn, IfThere, IndexSuits, InitialSuits, LeftSuits, NameSuits, OperandsSuit, Passes, PathNamed, PathStands, PlaceSuits, ReferencesSuit, RightSuits, SameSort, SimpleSuits, StatementSuits, StatementsSuit, Suits, TakeSuits, TestSuits, behind_declaration, in_first as flat_first, in_statement as flat_statement, is_cell, is_declaration, kind_in}, Tables.{all_first_words, all_granules, cells_in, first_words, globals_from, globals_of, granules_in}, declared.op.Op.Op, declared.op.Spot.Spot, declared.slot.Lvalue.Lvalue, declared.slot.Slot.Slot}
+pub use Rattle.sharc_flat.specs.{Flattened.{argument_words, arguments_code, around_body, behind_int, behind_ref, behind_statement, behind_statements, binary_code, body_at, called_code, cast_code, compare_code, condition_code, declared_lvalue, differ_code, drop_code, either_code, elements_code, expression_code, field_code, first_code, function_code, functions_code, guard_of, in_function, initial_code, ints_of, is_ref, jump_code, kind_of, local_code, logical_code, lvalue_code, lvalue_in, mode_of, named_code, parameters_scope, passed_code, place_call_code, place_code, refs_of, result_code, return_code, right_code, rows_of, simple_code, statement_code, statements_code, step_code, taken_guard, target_of, test_code, truth_code, turn_code, turns_code, unary_code, unary_place_code, value_call_code, wait_code, what_names, with_variable, with_words, zero_code}, Flattens.names_of, Laid.AreNamed, Machine.first_cell, Places.{Target, base_width, bounds_code, cell_store_code, cell_take_code, cell_value_code, copy_code, drop_base, global_of, guard_code, guard_field, guard_named, has_base, in_global, in_global_at, in_object_at, index_code, index_width, named_target, own_field, pointee_code, settle_base, settle_code, store_code, take_code, target, value_code, variable, width_code}, Scope.{Context, at_site, ends_from, leaves, pops, ref_count, register_of, slot_kind, slot_of}, Suits.{ArgumentsSuit, CallSuits, Either, FirstSuits, Goes, HandsOn, IfThere, IndexSuits, InitialSuits, LeftSuits, NameSuits, OperandsSuit, Passes, PathNamed, PathStands, PlaceSuits, ReferencesSuit, RightSuits, SameSort, SimpleSuits, StatementSuits, StatementsSuit, Suits, TakeSuits, TestSuits, behind_declaration, in_first as flat_first, in_statement as flat_statement, is_cell, is_declaration, kind_in}, Tables.{all_first_words, all_granules, cells_in, first_words, globals_from, globals_of, granules_in}, declared.op.Op.Op, declared.op.Spot.Spot, declared.slot.Lvalue.Lvalue, declared.slot.Slot.Slot}
 pub use Rattle.sharc_flat_laws.specs.{Stands.{AllLocalLocks, AtPlace, FirstLocks, FitAreUnguarded, GlobalsUnguarded, IsFit, IsHere, LocalLocks, LocksAreFound, LocksAt, LocksOf, NameStands, PathIn, PathNamedIn, TypedSuits}, Tables.{IsSpawned, MadeSpawns, MadeTablesFit, SpawnMeets}}

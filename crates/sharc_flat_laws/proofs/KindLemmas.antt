@@ -1,5 +1,5 @@
 -- Kinds: which are integers, pointers and scalars, and which agree.
-use Rattle.sharc_flat_laws.proofs.Imports.{◌≡◌, inl, inr, ◌+◌, ◌-◌, Bool, true, false, ◌&&◌, ◌||◌, cond, refl, ap, ap₂, sym, ◌∙◌, subst, eqb-true, false≢true, and_parts, bytes_eq-Decides, Base, Int, Char, Long, Mutex, Void, Struct, Kind, object, null, is_integer, is_pointer, is_null, same_base, same_kind, IsInteger, IsPointer, IsScalar, integers, Assignable, integer, pointer, null_pointer, one_less}
+use Rattle.sharc_flat_laws.proofs.Imports.{◌≡◌, inl, inr, ◌-◌, Bool, true, false, cond, refl, ap, ap₂, sym, ◌∙◌, subst, eqb-true, false≢true, and_parts, bytes_eq-Decides, Base, Int, Char, Long, Mutex, Void, Struct, Kind, object, null, is_integer, is_pointer, is_null, same_base, same_kind, IsInteger, IsPointer, IsScalar, Assignable, integer, pointer, null_pointer, one_less}
 
 -- tests that decide equality
 

@@ -1,5 +1,5 @@
 -- What the types of C11 are to flat code: integers, references, and what goes to what.
-use Rattle.sharc_flat_laws.proofs.Imports.{◌≡◌, inl, inr, ◌+◌, ◌==◌, true, false, ◌&&◌, ◌||◌, refl, ap, sym, ◌∙◌, subst, arith, lt-ltb, true≢false, Mutex, WrittenType, is_aggregate, Kind, null, is_integer, is_pointer, is_null, is_integral, is_struct_base, same_base, declared_kind, is_reference, IsInteger, IsPointer, IsScalar, Comparable, integers, pointers, pointer_and_null, null_and_pointer, Assignable, integer, pointer, null_pointer, IsHeld, Goes, Passes, SameSort, or_false, and_false, some_star}
+use Rattle.sharc_flat_laws.proofs.Imports.{◌≡◌, inl, inr, ◌+◌, true, false, ◌&&◌, ◌||◌, refl, ap, sym, ◌∙◌, subst, arith, lt-ltb, true≢false, Mutex, WrittenType, is_aggregate, Kind, null, is_integer, is_pointer, is_null, is_integral, is_struct_base, same_base, declared_kind, is_reference, IsInteger, IsPointer, IsScalar, Comparable, integers, pointers, pointer_and_null, null_and_pointer, Assignable, integer, pointer, null_pointer, IsHeld, Goes, Passes, SameSort, or_false, and_false, some_star}
 use Rattle.sharc_flat.specs.Suits as suits
 
 pub integer_yes : (k : Kind) → IsInteger k → is_integer k ≡ true

@@ -1,8 +1,6 @@
 -- What flattened code spawns, where it waits, and its tables.
-use Rattle.sharc_flat_laws.proofs.{Imports.{◌≡◌, ℕ, zero, suc, ◌+◌, ◌^◌, ◌<◌, ◌≤◌, List, [], ◌∷◌, length, Option, Some, refl, sym, ap, ◌∙◌, subst, arith, slice_get, Contains-append_right, IsSomeAnd, slice_index, AllByRecursion, Contains, expressions_in, Expression, spawn, Function, Named, Row, GlobalCells, Text, GlobalsFit, of_all, spawns, Resolution, function_at, functions_in, globals_in, named_at, MeetsGlobals, SpawnsByName, SpawnsNameFunctions, SpawnsThreads, WithinLimits, number_named, Assignment, Op, functions_code, rows_of, function_code, names_of, AreLaid, AreNamed, with_texts, globals_of, SpawnMeets, IsSpawned, MadeSpawns, MadeTablesFit, inside}, Spawning.{AllMeet, OpMeets, functions_meet}, Words.{words, globals_fit}}
-use Rattle.sharc_code.specs.declared.instr.Cell.{Cell}
-use Rattle.sharc_flat.specs.{Laid.told_by, declared.op.Spot.Spot}
-use Rattle.sharc_flat_laws.specs.Tables.{AllWait, IsWaited, MadeIsPast, MadeWaits, NamesGlobal, OpPast}
+use Rattle.sharc_flat_laws.proofs.{Imports.{◌≡◌, ℕ, zero, suc, ◌+◌, ◌^◌, ◌<◌, ◌≤◌, List, [], ◌∷◌, length, Option, Some, refl, sym, ap, ◌∙◌, subst, arith, slice_get, Contains-append_right, IsSomeAnd, slice_index, AllByRecursion, Contains, expressions_in, Expression, spawn, Function, Named, Row, GlobalCells, GlobalsFit, of_all, spawns, Resolution, function_at, functions_in, globals_in, named_at, MeetsGlobals, SpawnsByName, SpawnsNameFunctions, SpawnsThreads, WithinLimits, number_named, Assignment, Op, functions_code, rows_of, function_code, names_of, AreNamed, globals_of, SpawnMeets, IsSpawned, MadeSpawns, MadeTablesFit, inside}, Spawning.{AllMeet, functions_meet}, Words.{words, globals_fit}}
+use Rattle.sharc_flat_laws.specs.Tables.{AllWait, MadeIsPast, MadeWaits, NamesGlobal, OpPast}
 
 -- ---- lists
 named_count : (bytes : List ℕ) (told : List Row) (names : List (List ℕ)) (made : List Row) → AreNamed bytes told names made → length made ≡ length told
@@ -14,32 +12,8 @@ row_count : (m : Assignment) (globals : List GlobalCells) (pc : ℕ) (fs : List 
 row_count m globals pc [] = refl
 row_count m globals pc (f ∷ rest) = ap suc (row_count m globals (pc + length (function_code m globals pc f)) rest)
 
--- ---- operations with other texts
-told_two : (r : Resolution) (bytes : List ℕ) (c : Cell) (q : ℕ) (mutex : Cell) (a b : Spot) (rest ps : List Op) → AreLaid r bytes (Op.Unlock q mutex a ∷ Op.CondWait c b ∷ rest) ps → IsWaited c ps
-told_two r bytes c q mutex a b rest [] h = absurd h
-told_two r bytes c q mutex a b rest (p ∷ []) h = absurd h.1
-told_two r bytes c q mutex a b rest (p ∷ (w ∷ ps)) h = record {
-  register = q;
-  mutex = mutex;
-  unlock_spot = told_by h.0.lvalue h.0.lock a;
-  wait_spot = told_by h.1.0.lvalue h.1.0.lock b;
-  rest = ps;
-  is = ap (λ p. p ∷ w ∷ ps) h.0.is ∙ ap (λ w. Op.Unlock q mutex (told_by h.0.lvalue h.0.lock a) ∷ w ∷ ps) h.1.0.is;
-}
-
+-- ---- what all operations meet
 module _ (Q L : ℕ → Type 0) where
-  told_meets : (r : Resolution) (bytes : List ℕ) (lvalue lock : Text) (o : Op) (os ps : List Op) → AreLaid r bytes os ps → OpMeets Q L o os → OpMeets Q L (with_texts lvalue lock o) ps
-  told_meets r bytes lvalue lock (Op.Spawn i f from spot) os ps l h = h
-  told_meets r bytes lvalue lock (Op.GlobalBounds i elements cells field spot) os ps l h = h
-  told_meets r bytes lvalue lock (Op.CondEnter c spot) os ps l h = told_two r bytes c h.register h.mutex h.unlock_spot h.wait_spot h.rest ps (subst (λ os. AreLaid r bytes os ps) h.is l)
-  told_meets r bytes lvalue lock _ os ps l h = tt
-
-  laid_meet : (r : Resolution) (bytes : List ℕ) (told made : List Op) → AreLaid r bytes told made → AllMeet Q L told → AllMeet Q L made
-  laid_meet r bytes [] [] l h = tt
-  laid_meet r bytes (o ∷ os) (p ∷ ps) l h = (subst (λ p. OpMeets Q L p ps) (sym l.0.is) (told_meets r bytes l.0.lvalue l.0.lock o os ps l.1 h.0), laid_meet r bytes os ps l.1 h.1)
-  laid_meet r bytes [] (p ∷ ps) l h = absurd l
-  laid_meet r bytes (o ∷ os) [] l h = absurd l
-
   all_spawn : (os : List Op) → AllMeet Q L os → AllByRecursion (SpawnMeets Q) os
   all_spawn [] h = tt
   all_spawn (Op.Spawn i f from spot ∷ os) h = (h.0, all_spawn os h.1)
@@ -89,7 +63,7 @@ made_spawns law m resolved placed low code made =
     let fs = functions_in r.program.items in
     let gs = globals_of r in
     let named_all = each_from r fs 0 (λ n f e. let z : 0 + n ≡ n = omega arith in ap (function_at r) z ∙ e) (law r resolved placed low) in
-    all_spawn (IsSpawned r) (λ n. Unit {0}) code.lines.items (laid_meet (IsSpawned r) (λ n. Unit {0}) r code.texts.items (functions_code m gs 0 fs) code.lines.items made.lays.lines
+    subst (AllByRecursion (SpawnMeets (IsSpawned r))) (sym made.lines) (all_spawn (IsSpawned r) (λ n. Unit {0}) (functions_code m gs 0 fs)
     (functions_meet (IsSpawned r) (λ n. Unit {0}) (SpawnsOne (IsSpawned r)) (λ q s f a h. h) m gs 0 fs (λ f a h e n. tt) named_all))
 
 pub made_waits : MadeWaits
@@ -97,7 +71,7 @@ made_waits m code made =
     let any : ℕ → Type 0 = λ n. Unit {0} in
     let fs = functions_in m.typed.program.items in
     let gs = globals_of m.typed in
-    all_wait any any code.lines.items (laid_meet any any m.typed code.texts.items (functions_code m gs 0 fs) code.lines.items made.lays.lines (functions_meet any any (λ r e. Unit {0}) (λ r s f a h. tt) m gs 0 fs (λ f a h e n. tt) (all_any fs)))
+    subst AllWait (sym made.lines) (all_wait any any (functions_code m gs 0 fs) (functions_meet any any (λ r e. Unit {0}) (λ r s f a h. tt) m gs 0 fs (λ f a h e n. tt) (all_any fs)))
   where
     each_any : (es : List Expression) → AllByRecursion (λ e. Unit {0}) es
     each_any [] = tt
@@ -113,7 +87,7 @@ made_is_past m there past code made =
     let low : ℕ → Type 0 = λ n. 2 ≤ n in
     let fs = functions_in m.typed.program.items in
     let gs = globals_of m.typed in
-    all_past any low (λ n h. h) code.lines.items (laid_meet any low m.typed code.texts.items (functions_code m gs 0 fs) code.lines.items made.lays.lines
+    subst (AllByRecursion OpPast) (sym made.lines) (all_past any low (λ n h. h) (functions_code m gs 0 fs)
     (functions_meet any low NamesGlobal (λ r s f a h. tt) m gs 0 fs (λ f a h e n. let le = past a h e in omega (arith, le)) there))
 
 pub fits : WithinLimits → MeetsGlobals → SpawnsThreads → MadeSpawns → MadeTablesFit
@@ -121,14 +95,14 @@ fits limits globals_meet threads spawned m resolved placed low code made =
     let r = m.typed in
     let fs = functions_in r.program.items in
     let gs = globals_of r in
-    let count : length code.functions.items ≡ length fs = named_count code.texts.items (rows_of m gs 0 fs) (names_of fs) code.functions.items made.lays.functions ∙ row_count m gs 0 fs in
+    let count : length code.functions.items ≡ length fs = named_count code.texts.items (rows_of m gs 0 fs) (names_of fs) code.functions.items made.functions ∙ row_count m gs 0 fs in
     let few = (limits r.program resolved.typed).functions in
     let main = inside fs code.main made.main.0 made.main.1 in
     let thread : (function : ℕ) → IsSpawned r function → function < length fs = λ function by. let t = threads r resolved placed low by.0 function by.1 in inside fs function t.0 t.1.callable.at in
     record {
       functions = omega arith;
       main = omega arith;
-      globals = subst (λ (xs : List GlobalCells). GlobalsFit xs code.granules) (sym made.lays.globals)
+      globals = subst (λ (xs : List GlobalCells). GlobalsFit xs code.granules) (sym made.globals)
           (subst (GlobalsFit gs) (sym made.granules) (globals_fit r (globals_in r.program.items)));
       words = λ j. subst (λ (xs : List ℕ). slice_index xs j < 2 ^ 64) (sym made.initial) (words r (globals_in r.program.items) (globals_meet r.program resolved.typed) j);
       spawned = λ n to function from spot e. subst (λ k. function < k) (sym count)

@@ -8,5 +8,5 @@ pub use Rattle.sharc_ctype.specs.{Resolved.{Resolution, function_at, functions_i
 pub use Rattle.sharc_mode.specs.Moded.{Assignment}
 pub use Rattle.sharc_meaning.specs.{Cells.{element_cells, field_place_in, global_elements, place_in, struct_cells}, State.is_reference, Store.form_value}
 pub use Rattle.sharc_code.specs.{Arithmetic.word_of, Path.{most_ints, most_refs}, declared.code.Function.{Function as Row}, declared.code.GlobalCells.GlobalCells, declared.code.Layout.Layout, declared.code.Text.Text}
-pub use Rattle.sharc_flat.specs.{Flattened.{Around, arguments_code, behind_statement, behind_statements, binary_code, called_code, choice_code, expression_code, function_code, functions_code, guard_of, if_code, ints_of, is_ref, loop_code, looping, lvalue_code, place_code, refs_of, result_code, return_code, row_of, rows_of, statement_code, statements_code, step_code, struct_layout, test_code, truth_code, turn_code, turns_code, zero_code}, Flattens.names_of, Frames.{ints_in, refs_in}, Laid.{AreLaid, AreNamed, AreTexts, AreTextsIn, IsLaid, IsNamed, spot_in, with_texts, words_of}, Machine.first_cell, Places.{bounds_code, global_of, index_code, own_field, target, width_code}, Scope.{Context, at_site, int_count, leaves, pops, ref_count, register_from, slot_of}, Tables.{all_first_words, all_granules, all_pointers, cells_in, first_words, globals_from, globals_of, granules_in, layouts_from, layouts_of, pointers_among, pointers_of}, declared.op.Op.Op, declared.op.Op.TheVariants.{Enter, IsFalse, Jump, Return, Skip, SkipIfZero}, declared.op.Spot.Spot, declared.slot.Slot.Slot}
+pub use Rattle.sharc_flat.specs.{Flattened.{Around, arguments_code, behind_statement, behind_statements, binary_code, called_code, choice_code, expression_code, function_code, functions_code, guard_of, if_code, ints_of, is_ref, loop_code, looping, lvalue_code, place_code, refs_of, result_code, return_code, row_of, rows_of, statement_code, statements_code, step_code, struct_layout, test_code, truth_code, turn_code, turns_code, zero_code}, Flattens.names_of, Frames.{ints_in, refs_in}, Laid.{AreNamed, AreTexts, AreTold, IsNamed, spot_in, words_of}, Machine.first_cell, Places.{bounds_code, global_of, index_code, own_field, target, width_code}, Scope.{Context, at_site, int_count, leaves, pops, ref_count, register_from, slot_of}, Tables.{all_first_words, all_granules, all_pointers, cells_in, first_words, globals_from, globals_of, granules_in, layouts_from, layouts_of, pointers_among, pointers_of}, declared.flat.LineTexts.LineTexts, declared.op.Op.Op, declared.op.Op.TheVariants.{Enter, IsFalse, Jump, Return, Skip, SkipIfZero}, declared.op.Spot.Spot, declared.slot.Slot.Slot}
 pub use Rattle.sharc_flatten.specs.{Lookups.{HasCells, HasFields, HasLayouts, HasPlaces, HasRow, Places, Rows, place_found, row_at}, Places.{Grows, LiesIn, places_from}, Sizes.IsFew, View.{around_of, block_code, context, decided_code, element_code, finished, holds_references, hole_at, hole_of, index_register, indexed_code, innermost, operation_code, outermost}, declared.bodies.Around.{Around as RustAround}, declared.patch.Hole.Hole, declared.row.StructRow.StructRow, declared.source.PlacedProgram.PlacedProgram}

@@ -32,7 +32,6 @@ pub mod spots;
 mod target;
 mod texts;
 mod tokens;
-mod told;
 pub mod walk;
 
 pub use program::flatten;

@@ -1,9 +1,9 @@
 // From the meaning of a program to its flat form.
 
-ghost use Rattle.std.specs.Prelude.{◌≡◌, ◌≤◌, length, IfOk};
+ghost use Rattle.std.specs.Prelude.{◌≡◌, ◌≤◌, IfOk};
 ghost use Rattle.sharc_ctype.specs.Resolved.{functions_in, globals_in};
-ghost use Rattle.sharc_flat.specs.{Made.flat_of, Flattened.{rows_of, functions_code}, Flattens.{names_of, Flattens}};
-ghost use Rattle.sharc_flat.specs.{Flattens.IsMainOf, Laid.{AreLaid, AreNamed}, Laws.FitsMade, Tables.globals_of};
+ghost use Rattle.sharc_flat.specs.{Made.flat_of, Flattened.{rows_of, functions_code}, Flattens.Flattens};
+ghost use Rattle.sharc_flat.specs.{Flattens.IsMainOf, Laws.FitsMade, Tables.globals_of};
 ghost use Rattle.sharc_flat.specs.Tables.{all_granules, all_first_words};
 
 use crate::functions::functions;
@@ -19,7 +19,7 @@ use sharc_flat::{Flat, Op};
 use sharc_mode::moded::Moded;
 use std::alloc::{AllocError, Global};
 
-/// The lines of all functions and the table of these, whose texts are given by tokens, with the globals.
+/// The lines of all functions and the table of these, whose names are given by tokens, with the globals.
 #[derive(Drop)]
 struct ProgramParts {
     lines: Vec<Op>,
@@ -71,26 +71,6 @@ fn parts_of(alloc: Global, program: &Moded) -> Result<ProgramParts, AllocError>
     })
 }
 
-/// The bytes of all texts; the lines and the rows get the places of theirs.
-fn lay_texts(
-    alloc: Global,
-    typed: &Typed,
-    lines: &mut Vec<Op>,
-    rows: &mut Vec<Function>,
-) -> Result<Vec<u8>, AllocError>
-    requires { length rows.old.items ≡ length (functions_in typed.now.program.items) }
-    ensures lines { IfOk result (λ bytes. AreLaid typed.now bytes.items lines.old.items lines.new.items) }
-    ensures rows { IfOk result (λ bytes.
-        AreNamed bytes.items rows.old.items (names_of (functions_in typed.now.program.items)) rows.new.items) }
-{
-    let mut bytes = Vec::new(alloc);
-    let words = TokenTexts::of(alloc, typed, &mut bytes)?;
-    words.lay(alloc, lines, &mut bytes)?;
-    drop(words);
-    lay_names(typed, rows, &mut bytes)?;
-    Ok(bytes)
-}
-
 /// A number of granules that a state may have; else there would not be enough memory.
 fn few_granules(granules: u32) -> Result<u32, AllocError>
     ensures is { IfOk result (λ n. n ≡ granules) }
@@ -112,17 +92,22 @@ pub fn flatten(alloc: Global, program: &Moded) -> Result<Flat, AllocError>
 {
     let t = program.typed();
     let ProgramParts {
-        mut lines,
+        lines,
         mut functions,
         globals,
     } = parts_of(alloc, program)?;
-    let texts = lay_texts(alloc, t, &mut lines, &mut functions)?;
+    let mut texts = Vec::new(alloc);
+    let words = TokenTexts::of(alloc, t, &mut texts)?;
+    let told = words.lay(alloc, lines.as_slice(), &mut texts)?;
+    drop(words);
+    lay_names(t, &mut functions, &mut texts)?;
     frames_fit(functions.as_slice())?;
     cells_fit(lines.as_slice())?;
     let layouts = layouts_of(alloc, t)?;
     let files = t.program().files.copy(alloc)?;
     Ok(Flat {
         lines,
+        told,
         functions,
         main: main_of(program)?,
         globals: globals.list,

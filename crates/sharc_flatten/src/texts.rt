@@ -7,12 +7,10 @@ ghost use Rattle.sharc_flat.specs.Laid.{words_of, name_of, field_behind, beside_
 ghost use Rattle.sharc_flatten.specs.Places.{places_from, LiesIn, Grows};
 
 use crate::lookups::small;
-use crate::places::Emitted;
 use crate::tokens::{add_text, lay_tokens};
-use crate::told::{spot_in, with_texts};
 use sharc_code::{Function, PlaceMode, Text};
 use sharc_ctype::typed::Typed;
-use sharc_flat::{Op, Spot};
+use sharc_flat::{LineTexts, Op, Spot};
 use sharc_mode::text::text_at;
 use sharc_mode::types::fields_behind;
 use sharc_names::fault::Named;
@@ -139,7 +137,7 @@ pub struct TokenTexts<'a> {
 impl<'a> TokenTexts<'a> {
     ghost use Rattle.std.specs.Prelude.{◌≡◌, ◌++◌, [], List, ℕ, IfOk, OnOk};
     ghost use Rattle.sharc_tree.specs.Texts.{tokens_text};
-    ghost use Rattle.sharc_flat.specs.Laid.{words_of, IsLaid, AreLaid};
+    ghost use Rattle.sharc_flat.specs.Laid.{words_of, spot_in, AreTexts, AreTold};
     ghost use Rattle.sharc_flatten.specs.Places.{LiesIn, Grows};
 
     /// The text of all tokens of a program, and where these lie in it.
@@ -169,32 +167,46 @@ impl<'a> TokenTexts<'a> {
         }
     }
 
-    /// An operation whose texts are given by tokens, with where they lie.
-    fn laid(&self, alloc: Global, op: Op, bytes: &mut Vec<u8>) -> Result<Op, AllocError>
+    /// Where the texts of a line lie; its lock path comes to the end of the bytes.
+    fn told(&self, alloc: Global, op: Op, bytes: &mut Vec<u8>) -> Result<LineTexts, AllocError>
         requires { Grows (tokens_text self.now.t.now.program.tokens.list) bytes.old.items }
         ensures grows { OnOk result (Grows bytes.old.items bytes.new.items) }
-        ensures laid { IfOk result (λ made. (more : List ℕ) → IsLaid self.now.t.now (bytes.new.items ++ more) op made) }
+        ensures told { IfOk result (λ told. (more : List ℕ)
+            → AreTexts self.now.t.now (bytes.new.items ++ more) (spot_in op) told) }
     {
-        match spot_in(op) {
-            None => Ok(op),
+        match op.spot() {
+            None => {
+                let nothing = Text { from: 0, until: 0 };
+                Ok(LineTexts {
+                    lvalue: nothing,
+                    lock: nothing,
+                })
+            }
             Some(spot) => {
                 let lvalue = self.place(spot.lvalue.from, spot.lvalue.until);
                 let lock = lock_text(alloc, self.t, spot, bytes)?;
-                Ok(with_texts(lvalue, lock, op))
+                Ok(LineTexts { lvalue, lock })
             }
         }
     }
 
-    /// All lines with where their texts lie; their lock paths come to the end of the bytes.
-    pub fn lay(&self, alloc: Global, lines: &mut Vec<Op>, bytes: &mut Vec<u8>) -> Emitted
+    /// Where the texts of all lines lie; their lock paths come to the end of the bytes.
+    pub fn lay(
+        &self,
+        alloc: Global,
+        lines: &[Op],
+        bytes: &mut Vec<u8>,
+    ) -> Result<Vec<LineTexts>, AllocError>
         requires { Grows (tokens_text self.now.t.now.program.tokens.list) bytes.old.items }
-        ensures { OnOk result ((more : List ℕ)
-            → AreLaid self.now.t.now (bytes.new.items ++ more) lines.old.items lines.new.items) }
+        ensures { IfOk result (λ told. (more : List ℕ)
+            → AreTold self.now.t.now (bytes.new.items ++ more) lines.now told.items) }
     {
+        let mut told = Vec::with_capacity(alloc, lines.len())?;
         for line in 0..lines.len() {
-            lines[line] = self.laid(alloc, lines[line], bytes)?;
+            let texts = self.told(alloc, lines[line], bytes)?;
+            told.push(texts)?;
         }
-        Ok(())
+        Ok(told)
     }
 }
 

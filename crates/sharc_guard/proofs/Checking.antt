@@ -1,5 +1,5 @@
 -- Each access comes after its check.
-use Rattle.sharc_guard.proofs.{Imports.{within as get_inside, ◌≡◌, ℕ, zero, suc, ◌+◌, ◌-◌, ◌<◌, ◌≤◌, ◌⊎◌, inl, inr, Bool, true, false, List, [], ◌∷◌, ◌++◌, length, map, refl, sym, ap, ◌∙◌, subst, ⊎_elim, arith, Some, None, slice_get, cond, cases_lt, append_assoc, length-map, Function, PlaceMode, Dynamic, LockedGlobal, LockedSibling, LockedThrough, LockedLoaded, SourcePlace, Global, Object, Char, Instr, Op, Spot, Flat, Program, source_at, expand, head, body, tail, own, width, offset, place, guarded, entered_at, source_of, check_under, access_of, IsCheckOf, LeadsTo, IsNoTarget, IsAfterCheck, IsCheckedAt}, Placing.{HasAt, entered_is, width_is, stands, place_next, source_is}, Framing.{there_is, AllIn, all_append, all_at, has_at, head_all}}
+use Rattle.sharc_guard.proofs.{Imports.{within as get_inside, ◌≡◌, ℕ, zero, suc, ◌+◌, ◌-◌, ◌<◌, ◌≤◌, ◌⊎◌, inl, inr, Bool, true, false, List, [], ◌∷◌, ◌++◌, length, refl, sym, ap, ◌∙◌, subst, ⊎_elim, arith, Some, None, slice_get, cond, cases_lt, append_assoc, length-map, Function, PlaceMode, Dynamic, LockedGlobal, LockedSibling, LockedThrough, LockedLoaded, SourcePlace, Global, Object, Char, Instr, Op, Spot, Flat, Program, source_at, expand, head, body, tail, own, width, offset, place, guarded, entered_at, source_of, check_under, access_of, IsCheckOf, LeadsTo, IsNoTarget, IsAfterCheck, IsCheckedAt}, Placing.{HasAt, entered_is, width_is, stands, place_next, source_is}, Framing.{there_is, AllIn, all_append, all_at, has_at, head_all}}
 use Rattle.sharc_guard.specs.Checked.{Access}
 
 -- ---- places grow

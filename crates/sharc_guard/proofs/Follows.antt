@@ -1,5 +1,5 @@
 -- One operation of flat code and its own guarded statement.
-use Rattle.sharc_guard.proofs.{Imports.{◌≡◌, ℕ, ℤ, zero, suc, pos, negsuc, ◌+◌, ◌*◌, ◌<◌, ◌⊎◌, inl, inr, Bool, true, false, not, List, [], ◌∷◌, ◌++◌, length, map, refl, sym, ap, ◌∙◌, subst, arith, Some, None, Option, Result, Ok, Err, nat_lt, slice_get, nat_tests, ne_eqb, length-append, length-map, append-nil, nat_eq, if◌then◌else◌, Act, CellAt, CellMode, SourceEvent, Trap, Taken, Function, SourcePlace, Width, Char, Int, Cell, Object as InObject, ObjectAt, Register, Instr, Operator, computed, negated, elements_made, kind_of, made_cell, Readonly, is_positive as positive, GivenUp, Released, Replaced, Emptied, held_mutexes, locked_by, unlocked_by, NULL, is_null, number_of, stopped, ended, event_of, answer_of, Op, Spot, goes, asks, halts, op_turn, after, IsFlat, Leads, IsWide, Program, Thread, Phase, Running, Leaving, Left, Goes, Asks, Halts, Stopped, step, source_at, statement_at, weight, source_of, source_at_spot, compute, negate, body, tail, Resolved, bottom, image}, Holding.{quiet_held, lock_held, unlock_held, funext}, Placing.{HasAt, entered_is, pl, p}, Beside.{variable_same, kind_same}}
+use Rattle.sharc_guard.proofs.{Imports.{◌≡◌, ℕ, ℤ, zero, suc, pos, negsuc, ◌+◌, ◌*◌, ◌<◌, ◌⊎◌, inl, inr, Bool, true, false, not, List, [], ◌∷◌, ◌++◌, length, map, refl, sym, ap, ◌∙◌, subst, arith, Some, None, Option, Result, Ok, Err, nat_lt, slice_get, nat_tests, ne_eqb, length-append, length-map, append-nil, nat_eq, if◌then◌else◌, Act, CellAt, CellMode, SourceEvent, Trap, Taken, Function, SourcePlace, Width, Char, Cell, Object as InObject, ObjectAt, Register, Instr, Operator, computed, negated, elements_made, kind_of, made_cell, Readonly, is_positive as positive, GivenUp, Released, Replaced, Emptied, held_mutexes, locked_by, unlocked_by, NULL, is_null, number_of, stopped, ended, event_of, answer_of, Op, Spot, goes, asks, halts, op_turn, after, IsFlat, Leads, IsWide, Program, Thread, Phase, Running, Leaving, Left, Goes, Asks, Halts, Stopped, step, source_at, statement_at, weight, source_of, source_at_spot, compute, negate, body, tail, Resolved, bottom, image, LineTexts, with_texts}, Holding.{quiet_held, lock_held, unlock_held, funext}, Placing.{HasAt, entered_is, pl, p}, Beside.{variable_same, kind_same}}
 use Rattle.sharc_code.specs.{Machine.is_positive, Says.variable_of, Runs.put}
 use Rattle.sharc_flat.specs.Machine as Flat
 use Rattle.sharc_guard.specs.Machine as Form
@@ -84,7 +84,7 @@ module _ (dropped : ℕ → Bool) (flat : Flat.Flat) where
     me = image at m q L
 
     -- ---- events
-    module _ (n : ℕ) (spot : Spot) (s : source_at g n ≡ source_at_spot spot) where
+    module _ (n : ℕ) (spot : Spot) {t : LineTexts} (s : source_at g n ≡ with_texts t (source_at_spot spot)) where
       told : (m1 : Flat.At) (act : Act) (held : ℤ) (f : ℤ → Flat.At → Flat.At) (answering : ℤ → ℤ) (go : ℤ → Thread → Thread)
           → ((x : ℤ) → (y : ℤ) × Near (after m1 (asks m1 spot.site act held f) y) (go x (Form.told me spot.site act (answering x))))
           → Follow (asks m1 spot.site act held f) (Form.asks_at g me n act answering go)
@@ -318,7 +318,7 @@ module _ (dropped : ℕ → Bool) (flat : Flat.Flat) where
       negates _ i a spot w e lt s = results e lt i m.pc spot _ s
 
       -- an event that changes nothing else
-      tells : (e : q + 1 ≡ at (m.pc + 1)) (lt : m.pc + 1 < length flat.lines) (spot : Spot) (s : source_at g m.pc ≡ source_at_spot spot) (act : Act) → locked_by act ≡ None → unlocked_by act ≡ None
+      tells : (e : q + 1 ≡ at (m.pc + 1)) (lt : m.pc + 1 < length flat.lines) (spot : Spot) {t : LineTexts} (s : source_at g m.pc ≡ with_texts t (source_at_spot spot)) (act : Act) → locked_by act ≡ None → unlocked_by act ≡ None
           → ((x : ℤ) → answer_of (λ token. pos 0) act x ≡ pos 0)
           → Follow (Flat.event spot act (λ v n. n) m) (Form.tells_at g me m.pc act)
       tells e lt spot s act l u silent =
@@ -332,7 +332,7 @@ module _ (dropped : ℕ → Bool) (flat : Flat.Flat) where
       abbrev taking : ℕ → ℕ → Turn
       taking r x = Form.asks_at g me m.pc (Act.Take (Taken.Local (variable_of (source_at g m.pc).at)) (kind_of (source_at g m.pc).at)) (λ y. Form.ref me x) (λ y b. Form.next (Form.move_ref b r x))
 
-      takes : (e : q + 1 ≡ at (m.pc + 1)) (lt : m.pc + 1 < length flat.lines) (r x : ℕ) (spot : Spot) (s : source_at g m.pc ≡ source_at_spot spot) (b : Bool) → is_null (Flat.ref m x) ≡ b
+      takes : (e : q + 1 ≡ at (m.pc + 1)) (lt : m.pc + 1 < length flat.lines) (r x : ℕ) (spot : Spot) {t : LineTexts} (s : source_at g m.pc ≡ with_texts t (source_at_spot spot)) (b : Bool) → is_null (Flat.ref m x) ≡ b
           → Follow (Flat.takes_local r x spot m b) (Form.taken_local g me r x m.pc)
       takes e lt r x spot s true k = subst (λ b. Follow (Flat.goes_on (Flat.moved r x m)) (if b then Form.goes (Form.move_ref me r x) else taking r x)) (sym k) (plain e lt (Flat.next (Flat.moved r x m)) refl refl refl calls)
       takes e lt r x spot s false k =
@@ -343,7 +343,7 @@ module _ (dropped : ℕ → Bool) (flat : Flat.Flat) where
             λ y. (pos 0, quiet e lt (Flat.next (Flat.moved r x (Flat.with_event (event_of spot.site (Act.Take (Taken.Local (Flat.variable_of spot.at)) (Flat.take_kind_of spot.at)) (Flat.ref m x)) m))) (event_of spot.site (Act.Take (Taken.Local (Flat.variable_of spot.at)) (Flat.take_kind_of spot.at)) (Flat.ref m x)) refl refl refl refl refl calls),
           ))
 
-      locks : (e : q + 1 ≡ at (m.pc + 1)) (lt : m.pc + 1 < length flat.lines) (cell : Cell) (spot : Spot) (s : source_at g m.pc ≡ source_at_spot spot) → Follow (op_turn flat (Op.Lock cell spot) m) (step g (Instr.Lock cell m.pc) me)
+      locks : (e : q + 1 ≡ at (m.pc + 1)) (lt : m.pc + 1 < length flat.lines) (cell : Cell) (spot : Spot) {t : LineTexts} (s : source_at g m.pc ≡ with_texts t (source_at_spot spot)) → Follow (op_turn flat (Op.Lock cell spot) m) (step g (Instr.Lock cell m.pc) me)
       locks e lt cell spot s =
           let c = Flat.cell_at flat.globals m cell in
           let ev = event_of spot.site (Act.Lock c) (pos 0) in
@@ -355,7 +355,7 @@ module _ (dropped : ℕ → Bool) (flat : Flat.Flat) where
           by_cell (ObjectAt r n) c = near e lt (Flat.next (Flat.set_ref r (pos 0) (Flat.with_event (event_of spot.site (Act.Lock c) (pos 0)) m))) [] (held_mutexes m.events ++ c ∷ []) (sym (lock_held m.events (event_of spot.site (Act.Lock c) (pos 0)) c refl refl)) refl tt calls
           by_cell _ c = near e lt (Flat.next (Flat.with_event (event_of spot.site (Act.Lock c) (pos 0)) m)) [] (held_mutexes m.events ++ c ∷ []) (sym (lock_held m.events (event_of spot.site (Act.Lock c) (pos 0)) c refl refl)) refl tt calls
 
-      spawns : (e : q + 1 ≡ at (m.pc + 1)) (lt : m.pc + 1 < length flat.lines) (i f : ℕ) (from : Register) (spot : Spot) (s : source_at g m.pc ≡ source_at_spot spot)
+      spawns : (e : q + 1 ≡ at (m.pc + 1)) (lt : m.pc + 1 < length flat.lines) (i f : ℕ) (from : Register) (spot : Spot) {t : LineTexts} (s : source_at g m.pc ≡ with_texts t (source_at_spot spot))
           → Follow (op_turn flat (Op.Spawn i f from spot) m) (step g (Instr.Spawn i f from m.pc) me)
       spawns e lt i f (Register.Int k) spot s =
           told m.pc spot s m (Act.Spawn f (Flat.int m k)) (pos 0) (λ v n. Flat.next (Flat.set_int i v n)) Form.given (λ x b. Form.next (Form.set_int b i x))
@@ -368,7 +368,7 @@ module _ (dropped : ℕ → Bool) (flat : Flat.Flat) where
       positive_same (pos (suc n)) = ap not (ne_eqb (suc n) 0 (λ k. omega arith))
       positive_same _ = refl
 
-      taken_same : (r : ℕ) (cell : Cell) (spot : Spot) → source_at g m.pc ≡ source_at_spot spot
+      taken_same : (r : ℕ) (cell : Cell) (spot : Spot) {t : LineTexts} → source_at g m.pc ≡ with_texts t (source_at_spot spot)
           → step g (Instr.TakeCell r cell m.pc) me ≡ Form.access_at g me m.pc cell (λ c mode. Act.Take (Taken.Cell c mode) (Flat.take_kind_of spot.at)) Form.given (λ x b. Form.next (Form.accessed (Form.set_ref b r x)))
       taken_same r cell spot s =
           ap (λ k. Form.access_at g me m.pc cell (λ c mode. Act.Take (Taken.Cell c mode) k) Form.given (λ x b. Form.next (Form.accessed (Form.set_ref b r x)))) (ap (λ (sp : SourcePlace). kind_of sp.at) s ∙ kind_same spot.at)
@@ -383,10 +383,10 @@ module _ (dropped : ℕ → Bool) (flat : Flat.Flat) where
           (sym (unlock_held m.events ev (Flat.cell_at flat.globals m cell) refl refl)) refl tt calls
 
       -- the site of an event is that of its line
-      site_of : (o : Op) (spot : Spot) → source_at g m.pc ≡ source_of o → (source_of o).site ≡ spot.site → spot.site ≡ (source_at g m.pc).site
+      site_of : (o : Op) (spot : Spot) {t : LineTexts} → source_at g m.pc ≡ with_texts t (source_of o) → (source_of o).site ≡ spot.site → spot.site ≡ (source_at g m.pc).site
       site_of o spot s k = sym (ap (λ (sp : SourcePlace). sp.site) s ∙ k)
 
-      pub follows : (o : Op) → source_at g m.pc ≡ source_of o → Leads flat m.pc o → q + (1 + length (tail o)) ≡ at (m.pc + 1) → HasAt g.statements (q + 1) (tail o) → Unlocked m o → Bodied o (body at m.pc o)
+      pub follows : (o : Op) {t : LineTexts} → source_at g m.pc ≡ with_texts t (source_of o) → Leads flat m.pc o → q + (1 + length (tail o)) ≡ at (m.pc + 1) → HasAt g.statements (q + 1) (tail o) → Unlocked m o → Bodied o (body at m.pc o)
       follows (Op.Constant i v) s lead e has un = plain (omega arith) lead (Flat.next (Flat.set_int i v m)) refl refl refl calls
       follows (Op.Move i from) s lead e has un = plain (omega arith) lead (Flat.next (Flat.set_int i (Flat.int m from) m)) refl refl refl calls
       follows (Op.Compute width operator i a b spot) s lead e has un = computes width operator i a b spot lead.0 (omega arith) lead.1 (site_of (Op.Compute width operator i a b spot) spot s refl)
@@ -430,7 +430,7 @@ module _ (dropped : ℕ → Bool) (flat : Flat.Flat) where
       follows (Op.LoadGuard cell spot) s lead e has un =
           guarding s
         where
-          guarding : source_at g m.pc ≡ record (source_at_spot spot) { mode = Readonly } → Follow (op_turn flat (Op.LoadGuard cell spot) m) (step g (Instr.LoadRef cell m.pc) me)
+          guarding : {t : LineTexts} → source_at g m.pc ≡ with_texts t (record (source_at_spot spot) { mode = Readonly }) → Follow (op_turn flat (Op.LoadGuard cell spot) m) (step g (Instr.LoadRef cell m.pc) me)
           guarding s = subst (λ (sp : SourcePlace). Follow (op_turn flat (Op.LoadGuard cell spot) m) (Form.asks me sp.site (Act.Read (Form.cell_at g me cell) (Form.mode_of g me (Form.cell_at g me cell) sp.mode)) Form.given (λ x b. Form.next (record b { pending = x })))) (sym s)
               (refl, refl, λ x. (x, quiet (omega arith) lead (Flat.next (record (Flat.with_event _ m) { pending = x })) _ refl refl refl refl refl calls))
       follows (Op.New r count cells spot) s lead e has un =

@@ -1,5 +1,5 @@
 -- The guarded code of framed flat code is well formed.
-use Rattle.sharc_guard.proofs.{Imports.{within as get_inside, slice_get-get_or, ◌≡◌, ℕ, zero, suc, ◌+◌, ◌-◌, ◌*◌, ◌^◌, ◌<◌, ◌≤◌, max, Bool, false, List, [], ◌∷◌, ◌++◌, length, map, fold, refl, sym, ap, ◌∙◌, subst, ⊎_elim, arith, Some, nat_lt, slice_get, lt-ltb, le-ltb, cases_lt, length-append, length-map, if◌then◌else◌, Function, Parameter, PlaceMode, Dynamic, LockedGlobal, LockedSibling, LockedThrough, LockedLoaded, GlobalCells, Cell, Register, Char, Int, Instr, IsInGlobal, Op, Spot, Flat, function_of, OpWrites, InLine, OpLeads, IsFramed, WritesWithin, BaseWithin, HandedWithin, HasFewCells, IsBody, IsAtPlace, IsEntry, IsGuarded, Program, function_at, expand, head, body, tail, own, width, offset, place, expanded, guarded, entered_at, check_under}, Placing.{HasAt, entered_is, part_is, width_is, stands, place_next}, Walking.{IsIdle, idle_length, bodied}}
+use Rattle.sharc_guard.proofs.{Imports.{within as get_inside, slice_get-get_or, ◌≡◌, ℕ, zero, suc, ◌+◌, ◌-◌, ◌*◌, ◌^◌, ◌<◌, ◌≤◌, max, Bool, false, List, [], ◌∷◌, ◌++◌, length, map, fold, refl, sym, ap, ◌∙◌, subst, ⊎_elim, arith, Some, nat_lt, slice_get, lt-ltb, le-ltb, cases_lt, length-append, length-map, if◌then◌else◌, Function, Parameter, PlaceMode, Dynamic, LockedGlobal, LockedSibling, LockedThrough, LockedLoaded, GlobalCells, Cell, Register, Char, Instr, IsInGlobal, Op, Spot, Flat, function_of, OpWrites, InLine, OpLeads, IsFramed, WritesWithin, BaseWithin, HandedWithin, HasFewCells, IsBody, IsAtPlace, IsEntry, IsGuarded, Program, function_at, expand, head, body, tail, own, width, offset, place, expanded, guarded, entered_at, check_under}, Placing.{HasAt, entered_is, part_is, width_is, stands, place_next}, Walking.{IsIdle, idle_length, bodied}}
 use Rattle.sharc_guard.specs.Form.{Leads, HasParameter}
 use Rattle.sharc_flat.specs.Framed as Framed
 

@@ -1,5 +1,5 @@
 -- What comes before a statement: checks of what it asks for.
-use Rattle.sharc_guard.proofs.{Imports.{◌≡◌, ℕ, ℤ, pos, ◌+◌, ◌-◌, inl, inr, Bool, true, false, List, [], ◌∷◌, Some, None, refl, sym, ap, ◌∙◌, subst, cond, Act, CellAt, CellMode, Taken, Trap, Kind, PlaceMode, Dynamic, LockedGlobal, LockedSibling, LockedThrough, LockedLoaded, Cell, Instr, Replaced, cell_of, through, held_mutexes, is_null, number_of, stopped, Op, Spot, Flat, At, Turn, asks, halts, ref, next, stops, cell_at, global_cell, cell_mode_of, is_of_null, lock_is_null, accesses, accessed, op_turn, take_kind_of, int, set_int, set_ref, gives_up, Program, Thread, source_at, weight, place, guarded, check_under, head, IsAccess, IsUnder, Tells, OverwritesNone, LockStands}, Places.{IsPlaceOf, spot_of}, Beside.{beside, cell_same, null_same}, Turning.IsOpenFor}
+use Rattle.sharc_guard.proofs.{Imports.{spot_of, ◌≡◌, ℕ, ℤ, pos, ◌+◌, ◌-◌, inl, inr, Bool, true, false, List, [], ◌∷◌, Some, None, refl, sym, ap, ◌∙◌, subst, cond, Act, CellAt, CellMode, Taken, Trap, Kind, PlaceMode, Dynamic, LockedGlobal, LockedSibling, LockedThrough, LockedLoaded, Cell, Instr, Replaced, cell_of, through, held_mutexes, is_null, number_of, stopped, Op, Spot, Flat, At, Turn, asks, halts, ref, next, stops, cell_at, global_cell, cell_mode_of, is_of_null, lock_is_null, accesses, accessed, op_turn, take_kind_of, int, set_int, set_ref, gives_up, Program, Thread, source_at, weight, place, guarded, check_under, head, IsAccess, IsUnder, Tells, OverwritesNone, LockStands}, Places.IsPlaceOf, Beside.{beside, cell_same, null_same}, Turning.IsOpenFor}
 use Rattle.sharc_tree.specs.declared.event.Object.{Object}
 use Rattle.sharc_guard.specs.Machine as Form
 use Rattle.sharc_guard.specs.Counted.{IsBeside}

@@ -1,5 +1,5 @@
 -- The lists that guarding fills.
-use Rattle.sharc_guard.proofs.{Imports.{◌≡◌, ◌≤◌, ◌<◌, ℕ, zero, suc, ◌+◌, ◌-◌, ◌*◌, Bool, true, false, List, [], ◌∷◌, ◌++◌, length, drop, refl, sym, ap, ◌∙◌, arith, Some, slice_get, get_or, nat_lt, if◌then◌else◌, length-append, get_or_append_left, get_or-append_seam, ltb-true, ltb-false, Instr, Op, width, offset, place, expanded, head, own, body, tail, among, places, marked}, Placing.offset_next, Holding.funext}
+use Rattle.sharc_guard.proofs.{Imports.{◌≡◌, ◌≤◌, ◌<◌, ℕ, zero, suc, ◌+◌, ◌-◌, ◌*◌, Bool, true, false, List, [], ◌∷◌, ◌++◌, length, drop, refl, sym, ap, ◌∙◌, arith, Some, slice_get, get_or, nat_lt, if◌then◌else◌, length-append, get_or_append_left, get_or-append_seam, ltb-true, ltb-false, Instr, LineTexts, Op, width, offset, place, expanded, head, own, body, tail, among, places, marked, site_by, sites_of, take, None}, Placing.offset_next, Holding.funext}
 
 abbrev pub Summed : List Bool → List Op → ℕ → ℕ → List ℕ → Type 0
 Summed marks lines n at starts = (starts ≡ places (marked marks) lines n) × (at ≡ place (marked marks) lines n) × (at ≤ 2 + 4 * n)
@@ -20,6 +20,20 @@ places_more d lines n = ap (places d lines) one
   where
     one : suc n ≡ n + 1
     one = omega arith
+
+-- sites so far, and one more
+pub site_more : (lines : List Op) (told : List LineTexts) (n : ℕ) (o : Op) → slice_get lines n ≡ Some o → sites_of (take n lines) told ++ site_by (slice_get told n) o ∷ [] ≡ sites_of (take (n + 1) lines) told
+site_more lines told n o e = next lines told n e ∙ ap (λ k. sites_of (take k lines) told) one
+  where
+    one : suc n ≡ n + 1
+    one = omega arith
+
+    next : (lines : List Op) (told : List LineTexts) (n : ℕ) → slice_get lines n ≡ Some o → sites_of (take n lines) told ++ site_by (slice_get told n) o ∷ [] ≡ sites_of (take (suc n) lines) told
+    next [] told n e = absurd (cc)
+    next (x ∷ os) [] zero e = let s : o ≡ x = cc in ap (λ o. site_by None o ∷ []) s
+    next (x ∷ os) (t ∷ ts) zero e = let s : o ≡ x = cc in ap (λ o. site_by (Some t) o ∷ []) s
+    next (x ∷ os) [] (suc n) e = ap (λ l. site_by None x ∷ l) (next os [] n e)
+    next (x ∷ os) (t ∷ ts) (suc n) e = ap (λ l. site_by (Some t) x ∷ l) (next os ts n e)
 
 -- how many statements the parts of a line are
 pub width_parts : (dropped : Bool) (n : ℕ) (o : Op) → width dropped n o ≡ length (head dropped n o) + length (own (body (λ k. 0) 0 o)) + length (tail o)

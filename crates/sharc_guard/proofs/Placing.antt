@@ -1,5 +1,5 @@
 -- Where the statements of lines lie.
-use Rattle.sharc_guard.proofs.Imports.{get_or-map, get_or_from_slice_get, ◌≡◌, ℕ, zero, suc, ◌+◌, ◌<◌, Bool, List, [], ◌∷◌, ◌++◌, length, map, refl, sym, ap, ◌∙◌, subst, arith, Some, slice_get, get_or as slice_index_or, length-append, Function, no_function, function_at, function_of, entered_at, Instr, SourcePlace, Op, Flat, Program, statement_at, source_at, expand, width, offset, place, expanded, guarded, source_of, head, own, body, tail}
+use Rattle.sharc_guard.proofs.Imports.{get_or-map, get_or_from_slice_get, ◌≡◌, ℕ, zero, suc, ◌+◌, ◌<◌, Bool, List, [], ◌∷◌, ◌++◌, length, map, refl, sym, ap, ◌∙◌, subst, arith, Some, slice_get, get_or as slice_index_or, length-append, Function, no_function, function_at, function_of, entered_at, Instr, SourcePlace, Op, Flat, Program, statement_at, source_at, expand, width, offset, place, expanded, guarded, source_of, head, own, body, tail, LineTexts, with_texts, sites_of}
 
 -- the statements lie in the list from a place on
 abbrev pub HasAt : List Instr → ℕ → List Instr → Type 0
@@ -64,10 +64,18 @@ offset_next dropped k (x ∷ os) (suc n) o e =
     plus : (a b c d : ℕ) → b + c ≡ d → a + b + c ≡ a + d
     plus a b c d e = omega arith
 
-source_there : (lines : List Op) (n : ℕ) (o : Op) (d : SourcePlace) → slice_get lines n ≡ Some o → slice_index_or (map source_of lines) n d ≡ source_of o
-source_there [] n o d e = absurd (cc)
-source_there (x ∷ os) zero o d e = let s : x ≡ o = cc in ap source_of s
-source_there (x ∷ os) (suc n) o d e = source_there os n o d e
+-- where the texts of a line lie, if the table has that
+abbrev pub texts_at : List LineTexts → ℕ → SourcePlace → LineTexts
+texts_at [] n place = record { lvalue = place.lvalue; lock = place.lock }
+texts_at (t ∷ ts) zero place = t
+texts_at (t ∷ ts) (suc n) place = texts_at ts n place
+
+source_there : (lines : List Op) (told : List LineTexts) (n : ℕ) (o : Op) (d : SourcePlace) → slice_get lines n ≡ Some o → slice_index_or (sites_of lines told) n d ≡ with_texts (texts_at told n (source_of o)) (source_of o)
+source_there [] told n o d e = absurd (cc)
+source_there (x ∷ os) [] zero o d e = let s : x ≡ o = cc in ap source_of s
+source_there (x ∷ os) (t ∷ ts) zero o d e = let s : x ≡ o = cc in ap (λ o. with_texts t (source_of o)) s
+source_there (x ∷ os) [] (suc n) o d e = source_there os [] n o d e
+source_there (x ∷ os) (t ∷ ts) (suc n) o d e = source_there os ts n o d e
 
 part_in : {A : Type 0} (part : Function → A) (pl : ℕ → ℕ) → ((g : Function) → part (entered_at pl g) ≡ part g) → (fs : List Function) (f : ℕ) → part (slice_index_or (map (entered_at pl) fs) f no_function) ≡ part (slice_index_or fs f no_function)
 part_in part pl same [] f = refl
@@ -96,8 +104,8 @@ module _ (dropped : ℕ → Bool) (flat : Flat) where
   pub statement_is : (pc : ℕ) (i : Instr) → slice_get p.statements pc ≡ Some i → statement_at p pc ≡ i
   statement_is pc i e = get_or_from_slice_get p.statements pc i Instr.Exit e
 
-  pub source_is : (n : ℕ) (o : Op) → slice_get flat.lines n ≡ Some o → source_at p n ≡ source_of o
-  source_is n o e = source_there flat.lines n o _ e
+  pub source_is : (n : ℕ) (o : Op) → slice_get flat.lines n ≡ Some o → source_at p n ≡ with_texts (texts_at flat.told n (source_of o)) (source_of o)
+  source_is n o e = source_there flat.lines flat.told n o _ e
 
   -- a function is that of flat code, entered where its first line has gone
   pub entered_is : (f : ℕ) → f < length flat.functions → function_at p f ≡ entered_at pl (function_of flat f)

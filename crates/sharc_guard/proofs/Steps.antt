@@ -1,6 +1,5 @@
 -- One more turn of guarded code.
 use Rattle.sharc_guard.proofs.{Imports.{get_or_from_slice_get, ◌≡◌, ℕ, ℤ, ◌+◌, ◌*◌, ◌≤◌, ◌⊎◌, inl, inr, Bool, true, List, [], ◌∷◌, ◌++◌, length, Some, refl, sym, ap, ◌∙◌, subst, arith, ⊎_elim, slice_get, get_or as slice_index_or, Instr, Char, Int, Long, Op, Flat, At, Turn, goes, asks, halts, turn, op_turn, may_go, at_after, IsFlatPath, asked_by, asked, Program, Thread, statement_at, thread_after, weight, weight_in, place, guarded, head, own, body, tail, Tells, LocksFrom, IsLevel, guarded_asked_by, guarded_asked, is_enter, moves}, Placing.HasAt, Gates.GivesNow, Turns.behind, Near.{quiet, IsQuiet, Near, Ending, Follow}, Phases.{IsMoving, Stage, ahead, behind_it, leaves, Bound, opens, enters_all}}
-use Rattle.sharc_code.specs.Machine as CodeMachine
 use Rattle.sharc_guard.specs.Machine as Form
 use Rattle.sharc_guard.specs.Path as Path
 

@@ -1,6 +1,5 @@
 -- The paths of guarded code are those of flat code.
-use Rattle.sharc_guard.proofs.{Imports.{Taken, is_positive, elements_of, is_zero, Replaced, held_mutexes, holds_mutex, holds, Private, Readonly, Racy, Dynamic, PlaceMode, Cell, Function, Parameter, Instr, Char, Int, CellMode, Act, Site, CellAt, Trap, ◌≡◌, ◌≢◌, ℕ, ℤ, pos, suc, ◌+◌, ◌*◌, ◌<◌, ◌≤◌, ◌⊎◌, inl, inr, Bool, List, [], ◌∷◌, length, refl, sym, ap, ◌∙◌, subst, arith, ⊎_elim, cond, Result, Ok, Err, false, true, not, negsuc, nat_lt, cases_eq, slice_get_past, Op, Spot, Flat, At, Turn, goes, asks, halts, function_of, end_turn, line_turn, op_turn, turn, first_at, begun, start, Caller, indexed, asserts, with_result, takes_local, goes_on, stops, returned, called, set_int, int, ref, cell_at, cell_mode_of, lock_is_null, accesses, accessed, next, set_ref, gives_up, take_kind_of, at_after, Program, Thread, statement_at, with_parameter, fresh, started, thread_after, IsPath, weight_in, place, guarded, entered_at, own, body, tail, head, check_under, Takes, Level, IsLevel, Tells, IsSettling, AreLowered, OverwritesNone, Quietly, OnWay, IsReplaced, MatchesFlat, HasCome, LocksFrom, GuardedCounts, NeedsCheck, IsPassed, WasChecked, IsOf, false_true}, Gates.{Guards as GuardsOf, Passes, GivesNow}, Turning.IsOpenFor, Beside.beside, Ready.{Is, null_is, put_other, Ready}, Near.{IsLowering, Near, Ending, leaving, Follow, lands}, Phases.{Ahead, Stage, ahead, behind_it, leaves, Bound}, Steps.{statement_is, quiet_turn, Coming, landed, Was, PassedBy, LastPassed}, Ways.ways, Comes.{at_body, at_check, comes}, Placing.{entered_is, part_is}}
-use Rattle.sharc_code.specs.Machine as CodeMachine
+use Rattle.sharc_guard.proofs.{Imports.{Taken, is_positive, elements_of, is_zero, Replaced, held_mutexes, holds_mutex, holds, Private, Readonly, Racy, Dynamic, PlaceMode, Cell, Function, Parameter, Instr, Char, CellMode, Act, Site, CellAt, Trap, ◌≡◌, ◌≢◌, ℕ, ℤ, pos, suc, ◌+◌, ◌*◌, ◌<◌, ◌≤◌, ◌⊎◌, inl, inr, Bool, List, [], ◌∷◌, length, refl, sym, ap, ◌∙◌, subst, arith, ⊎_elim, cond, Result, Ok, Err, false, true, not, negsuc, nat_lt, cases_eq, slice_get_past, Op, Spot, Flat, At, Turn, goes, asks, halts, function_of, end_turn, line_turn, op_turn, turn, first_at, begun, start, Caller, indexed, asserts, with_result, takes_local, goes_on, stops, returned, called, set_int, int, ref, cell_at, cell_mode_of, lock_is_null, accesses, accessed, next, set_ref, gives_up, take_kind_of, at_after, Program, Thread, statement_at, with_parameter, fresh, started, thread_after, IsPath, weight_in, place, guarded, entered_at, own, body, tail, head, check_under, Takes, Level, IsLevel, Tells, IsSettling, AreLowered, OverwritesNone, Quietly, OnWay, IsReplaced, MatchesFlat, HasCome, LocksFrom, GuardedCounts, NeedsCheck, IsPassed, WasChecked, IsOf, false_true}, Gates.{Guards as GuardsOf, Passes, GivesNow}, Turning.IsOpenFor, Beside.beside, Ready.{Is, null_is, put_other, Ready}, Near.{IsLowering, Near, Ending, leaving, Follow, lands}, Phases.{Ahead, Stage, ahead, behind_it, leaves, Bound}, Steps.{statement_is, quiet_turn, Coming, landed, Was, PassedBy, LastPassed}, Ways.ways, Comes.{at_body, at_check, comes}, Placing.{entered_is, part_is}}
 use Rattle.sharc_guard.specs.Machine as Form
 use Rattle.sharc_guard.specs.Level.{IsEntry}
 

@@ -1,5 +1,5 @@
 -- One statement of flat code and its own guarded statement.
-use Rattle.sharc_guard.proofs.{Imports.{◌≡◌, ◌≢◌, ℕ, ℤ, pos, negsuc, suc, ◌+◌, ◌*◌, ◌<◌, ◌≤◌, inl, inr, Bool, true, false, not, List, [], ◌∷◌, ◌++◌, length, Some, None, refl, sym, ap, ◌∙◌, subst, arith, cond, ⊎_elim, Result, Ok, Err, cases_eq, cases_lt, nat_tests, fun_ext, nat_lt, ◌==◌, Act, CellAt, CellMode, SourceEvent, Site, Trap, Taken, Function, Readonly, Use, Cell, Instr, Register, Char, Int, Long, computed, negated, holds, complement, truth, GivenUp, Released, Replaced, Emptied, is_zero, is_equal, held_mutexes, holds_mutex, locked_by, unlocked_by, number_of, elements_of, stopped, event_of, answer_of, is_positive, Op, Spot, Flat, Caller, At, Turn, goes, asks, put, int, ref, set_int, set_ref, gives_up, popped, moved, settled, next, over_lines, goes_on, stops, asserts, with_result, cell_at, base_of, without_base, cell_mode_of, lock_is_null, instance_mode, accessed, accesses, event, indexed, take_kind_of, variable_of, takes_local, called, returned, argument, handed, op_turn, with_event, Program, Thread, source_at, place, guarded, own, body, tail, Slot, free, full, Slots, with_slot, with_moved, without_cell, slot_of, without_handed, Enters, Calls, Resumes, Leaves, Level, IsLevel, IsEnd, AreLowered}, Places.{IsPlaceOf, spot_of}, Holding.{quiet_held, lock_held, unlock_held}, Beside.{zero_same, kind_same, variable_same, callers, callers_length, beside, cell_same, mode_same, argument_same, object_same}, Ready.{put_at, put_other, moved_same, Is, Hold, hold_as, Frames, Ready, enters, keeps as keeps_at, puts as puts_at, moves as moves_at, call_ready as call_ready_at, return_ready as return_ready_at, null_here as null_here_at, is_free as is_free_at}, Near.{Near, Follow, lands}, Placing.{entered_is}}
+use Rattle.sharc_guard.proofs.{Imports.{spot_of, ◌≡◌, ◌≢◌, ℕ, ℤ, pos, negsuc, suc, ◌+◌, ◌*◌, ◌<◌, ◌≤◌, inl, inr, Bool, true, false, not, List, [], ◌∷◌, ◌++◌, length, Some, None, refl, sym, ap, ◌∙◌, subst, arith, cond, ⊎_elim, Result, Ok, Err, cases_eq, cases_lt, nat_tests, fun_ext, nat_lt, ◌==◌, Act, CellAt, CellMode, SourceEvent, Site, Trap, Taken, Function, Readonly, Use, Cell, Instr, Register, Char, Int, Long, computed, negated, holds, complement, truth, GivenUp, Released, Replaced, Emptied, is_zero, is_equal, held_mutexes, holds_mutex, locked_by, unlocked_by, number_of, elements_of, stopped, event_of, answer_of, is_positive, Op, Spot, Flat, Caller, At, Turn, goes, asks, put, int, ref, set_int, set_ref, gives_up, popped, moved, settled, next, over_lines, goes_on, stops, asserts, with_result, cell_at, base_of, without_base, cell_mode_of, lock_is_null, instance_mode, accessed, accesses, event, indexed, take_kind_of, variable_of, takes_local, called, returned, argument, handed, op_turn, with_event, Program, Thread, source_at, place, guarded, own, body, tail, Slot, free, full, Slots, with_slot, with_moved, without_cell, slot_of, without_handed, Enters, Calls, Resumes, Leaves, Level, IsLevel, IsEnd, AreLowered}, Places.IsPlaceOf, Holding.{quiet_held, lock_held, unlock_held}, Beside.{zero_same, kind_same, variable_same, callers, callers_length, beside, cell_same, mode_same, argument_same, object_same}, Ready.{put_at, put_other, moved_same, Is, Hold, hold_as, Frames, Ready, enters, keeps as keeps_at, puts as puts_at, moves as moves_at, call_ready as call_ready_at, return_ready as return_ready_at, null_here as null_here_at, is_free as is_free_at}, Near.{Near, Follow, lands}, Placing.{entered_is}}
 use Rattle.sharc_code.specs.Arithmetic as Code
 use Rattle.sharc_code.specs.Machine as CodeMachine
 use Rattle.sharc_code.specs.Says as Says

@@ -1,5 +1,5 @@
 -- A path of guarded code comes to where a path of flat code is.
-use Rattle.sharc_guard.proofs.{Imports.{slice_get_past, slice_get-get_or, ◌≡◌, ℕ, ℤ, zero, suc, pos, ◌+◌, ◌-◌, ◌*◌, ◌<◌, ◌≤◌, ◌⊎◌, inl, inr, Bool, true, false, List, [], ◌∷◌, ◌++◌, length, refl, sym, ap, ◌∙◌, subst, arith, Some, None, Option, slice_get, append-nil, append_assoc, length-append, Act, Site, Trap, Function, Parameter, PlaceMode, Dynamic, SourcePlace, Char, Int, Instr, NULL, stopped, event_of, Op, Spot, goes, asks, halts, op_turn, at_after, IsFlat, Leads, Thread, Phase, Running, Leaving, Left, Goes, Asks, Checks, Halts, Stopped, Ended, step, source_at, statement_at, weight, started, fresh, thread_after, weight_in, source_of, head, body, tail, own, expand, entered_at, check_under, Resolved, bottom, image, Wants, IsBeside}, Placing.{HasAt, entered_is, part_is, stands, place_next, statement_is, source_is}, Follows.{g, at, Callers, Is, Trailing, AtEnd, Near, Follow, follows, Bodied, Unlocked, leaving}, Heads.{IsPass, Asking, IsHead, AreHeads, heads}}
+use Rattle.sharc_guard.proofs.{Imports.{slice_get_past, slice_get-get_or, ◌≡◌, ℕ, ℤ, zero, suc, pos, ◌+◌, ◌-◌, ◌*◌, ◌<◌, ◌≤◌, ◌⊎◌, inl, inr, Bool, true, false, List, [], ◌∷◌, ◌++◌, length, refl, sym, ap, ◌∙◌, subst, arith, Some, None, Option, slice_get, append-nil, append_assoc, length-append, Act, Site, Trap, Function, Parameter, PlaceMode, Dynamic, SourcePlace, Char, Instr, NULL, stopped, event_of, Op, Spot, goes, asks, halts, op_turn, at_after, IsFlat, Leads, Thread, Phase, Running, Leaving, Left, Goes, Asks, Checks, Halts, Stopped, Ended, step, source_at, statement_at, weight, started, thread_after, weight_in, source_of, head, body, tail, own, expand, entered_at, check_under, Resolved, bottom, image, Wants, IsBeside}, Placing.{HasAt, entered_is, part_is, stands, place_next, statement_is, source_is}, Follows.{g, at, Callers, Is, Trailing, AtEnd, Near, Follow, follows, Bodied, Unlocked, leaving}, Heads.{IsPass, Asking, IsHead, AreHeads, heads}}
 use Rattle.sharc_flat.specs.Machine as Flat
 use Rattle.sharc_guard.specs.Machine as Form
 use Rattle.sharc_guard.specs.Machine.{Turn}

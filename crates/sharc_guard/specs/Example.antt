@@ -36,7 +36,7 @@ lines = op.Enter ∷ op.Constant 0 (pos 7) ∷ op.Store 0 (Global 0 0) there ∷
     ∷ op.Print 0 there ∷ op.Return there ∷ []
 
 abbrev pub example : Flat
-example = record { lines = lines; functions = main ∷ []; globals = record { granule = 0; cells = 1 } ∷ [] }
+example = record { lines = lines; told = []; functions = main ∷ []; globals = record { granule = 0; cells = 1 } ∷ [] }
 
 -- the check of the read is dropped
 abbrev pub drops : ℕ → Bool

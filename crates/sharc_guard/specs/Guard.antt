@@ -20,7 +20,8 @@ use Rattle.sharc_code.specs.declared.instr.Instr.TheVariants.{Clear, Give, Free,
 use Rattle.sharc_code.specs.declared.instr.Instr.TheVariants.{Start, Exit, CondEnter, CondWait, CondSignal}
 use Rattle.sharc_code.specs.declared.instr.Instr.TheVariants.{CondBroadcast}
 use Rattle.sharc_code.specs.Says.{no_place}
-use Rattle.sharc_flat.specs.{declared.op.Op.Op, declared.op.Spot.Spot, Machine.Flat}
+use Rattle.sharc_flat.specs.declared.flat.LineTexts.{LineTexts}
+use Rattle.sharc_flat.specs.{declared.op.Op.Op, declared.op.Spot.Spot, Laid.spot_in, Machine.Flat}
 use Rattle.sharc_flat.specs.declared.op.Op.TheVariants as op
 use Rattle.sharc_guard.specs.Machine.{Program}
 
@@ -29,39 +30,31 @@ abbrev pub source_at_spot : Spot → SourcePlace
 source_at_spot spot =
     record { site = spot.site; lvalue = spot.lvalue; lock = spot.lock_text; mode = spot.mode; at = spot.at }
 
+abbrev pub source_by : Option Spot → SourcePlace
+source_by None = no_place
+source_by (Some spot) = source_at_spot spot
+
+-- what an operation is in the source, if it may stop, check or ask; the pointer to a mutex is readonly
+abbrev pub spot_of : Op → Option Spot
+spot_of (op.LoadGuard cell spot) = Some (record spot { mode = Readonly })
+spot_of o = spot_in o
+
 abbrev pub source_of : Op → SourcePlace
-source_of (op.Compute width operator i a b spot) = source_at_spot spot
-source_of (op.Negate width i a spot) = source_at_spot spot
-source_of (op.ChkWidth width i spot) = source_at_spot spot
-source_of (op.Call f ints refs spot) = source_at_spot spot
-source_of (op.Return spot) = source_at_spot spot
-source_of (op.ChkNull r spot) = source_at_spot spot
-source_of (op.ChkPositive i spot) = source_at_spot spot
-source_of (op.ChkHeld cell spot) = source_at_spot spot
-source_of (op.ChkNotHeld cell spot) = source_at_spot spot
-source_of (op.ChkRoom spot) = source_at_spot spot
-source_of (op.Bounds i r cells field spot) = source_at_spot spot
-source_of (op.GlobalBounds i elements cells field spot) = source_at_spot spot
-source_of (op.Load i cell spot) = source_at_spot spot
-source_of (op.Store i cell spot) = source_at_spot spot
-source_of (op.LoadRef r cell spot) = source_at_spot spot
-source_of (op.StoreRef r cell spot) = source_at_spot spot
-source_of (op.LoadGuard cell spot) = record (source_at_spot spot) { mode = Readonly }
-source_of (op.New r count cells spot) = source_at_spot spot
-source_of (op.TakeCell r cell spot) = source_at_spot spot
-source_of (op.TakeLocal r x spot) = source_at_spot spot
-source_of (op.Give r cells spot) = source_at_spot spot
-source_of (op.Free r layout spot) = source_at_spot spot
-source_of (op.Lock cell spot) = source_at_spot spot
-source_of (op.Unlock r cell spot) = source_at_spot spot
-source_of (op.CondEnter cell spot) = source_at_spot spot
-source_of (op.CondWait cell spot) = source_at_spot spot
-source_of (op.CondSignal cell spot) = source_at_spot spot
-source_of (op.CondBroadcast cell spot) = source_at_spot spot
-source_of (op.Spawn i f from spot) = source_at_spot spot
-source_of (op.Join i spot) = source_at_spot spot
-source_of (op.Print i spot) = source_at_spot spot
-source_of _ = no_place
+source_of o = source_by (spot_of o)
+
+-- a site with where its texts lie
+abbrev pub with_texts : LineTexts → SourcePlace → SourcePlace
+with_texts told place = record place { lvalue = told.lvalue; lock = told.lock }
+
+abbrev pub site_by : Option LineTexts → Op → SourcePlace
+site_by None o = source_of o
+site_by (Some told) o = with_texts told (source_of o)
+
+-- those of all lines
+abbrev pub sites_of : List Op → List LineTexts → List SourcePlace
+sites_of [] told = []
+sites_of (o ∷ os) [] = site_by None o ∷ sites_of os []
+sites_of (o ∷ os) (t ∷ ts) = site_by (Some t) o ∷ sites_of os ts
 
 -- ---- checks
 -- the check of an access at line n, of a mode; that of a dynamic cell may be dropped
@@ -196,5 +189,5 @@ guarded dropped flat = let pl = place dropped flat.lines in record {
   statements = Start 0 ∷ Exit ∷ expanded pl dropped 0 flat.lines;
   functions = map (entered_at pl) flat.functions;
   globals = flat.globals;
-  sites = map source_of flat.lines;
+  sites = sites_of flat.lines flat.told;
 }

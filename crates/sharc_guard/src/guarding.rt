@@ -1,16 +1,18 @@
 //! Guarded code from flat code: a pass for the places, one for the statements.
 
 ghost use Rattle.std.specs.Prelude.{true, ◌≡◌, ◌≤◌, ◌<◌, ◌+◌, ◌*◌, ◌^◌, ℕ, ◌++◌, ◌∷◌, [], IfOk, OnOk, length, map};
+ghost use Rattle.std.specs.Prelude.{slice_get};
 ghost use Rattle.sharc_code.specs.{declared.instr.Instr.TheVariants.{Start, Exit}, Says.no_place};
 ghost use Rattle.sharc_flat.specs.Made.{flat_of};
-ghost use Rattle.sharc_guard.specs.Guard.{source_at_spot, source_of, check_under, head, compute, negate, body, tail};
-ghost use Rattle.sharc_guard.specs.{Guard.{own, expand, expanded, width, entered_at}, Known.{dropped, is_straight}};
+ghost use Rattle.sharc_guard.specs.Guard.{source_at_spot, spot_of, source_of, site_by, sites_of, check_under, head};
+ghost use Rattle.sharc_guard.specs.{Guard.{compute, negate, body, tail, own, expand, expanded, width, entered_at}};
+ghost use Rattle.sharc_guard.specs.Known.{dropped, is_straight};
 ghost use Rattle.sharc_guard.specs.Made.{IsMade, among, places, marked};
 
 use crate::guarded::Guarded;
 use crate::marks::marks_of;
 use sharc_code::{Cell, Function, Instr, Operator, PlaceMode, SourcePlace, Text, Use, Width};
-use sharc_flat::{Flat, Op, Spot};
+use sharc_flat::{Flat, LineTexts, Op, Spot};
 use sharc_tree::token::Site;
 use std::alloc::{AllocError, Global};
 
@@ -48,7 +50,7 @@ fn guard_marked(alloc: Global, flat: Flat, dropped: &[bool]) -> Result<Guarded, 
     let starts = starts_of(alloc, &flat.lines, dropped)?;
     let statements = statements_of(alloc, &flat.lines, dropped, &starts)?;
     let functions = functions_of(alloc, &flat.functions, &starts)?;
-    let sites = sites_of(alloc, &flat.lines)?;
+    let sites = sites_of(alloc, &flat.lines, &flat.told)?;
     Ok(Guarded {
         statements,
         functions,
@@ -127,12 +129,27 @@ fn entered(starts: &[u32], function: Function) -> Function
     }
 }
 
-fn sites_of(alloc: Global, lines: &[Op]) -> Result<Vec<SourcePlace>, AllocError>
-    ensures { IfOk result (λ sites. sites.items ≡ map source_of lines.now) }
+// The site of a line, with where its texts lie.
+fn site_at(told: &[LineTexts], n: usize, op: Op) -> SourcePlace
+    ensures { result ≡ site_by (slice_get told.now n) op }
+{
+    let place = source_of(op);
+    match told.get(n) {
+        None => place,
+        Some(told) => SourcePlace {
+            lvalue: told.lvalue,
+            lock: told.lock,
+            ..place
+        },
+    }
+}
+
+fn sites_of(alloc: Global, lines: &[Op], told: &[LineTexts]) -> Result<Vec<SourcePlace>, AllocError>
+    ensures { IfOk result (λ sites. sites.items ≡ sites_of lines.now told.now) }
 {
     let mut sites = Vec::with_capacity(alloc, lines.len())?;
-    for line in lines {
-        sites.push(source_of(*line))?;
+    for n in 0..lines.len() {
+        sites.push(site_at(told, n, lines[n]))?;
     }
     Ok(sites)
 }
@@ -278,58 +295,25 @@ fn no_place() -> SourcePlace
     }
 }
 
-fn source_of(op: Op) -> SourcePlace
-    ensures { result ≡ source_of op }
+// What it is in the source, if it may stop, check or ask; the pointer to a mutex is readonly.
+fn spot_of(op: Op) -> Option<Spot>
+    ensures { result ≡ spot_of op }
 {
     match op {
-        Op::Call(_, _, _, spot)
-        | Op::Return(spot)
-        | Op::TakeCell(_, _, spot)
-        | Op::TakeLocal(_, _, spot)
-        | Op::Give(_, _, spot)
-        | Op::Free(_, _, spot)
-        | Op::Lock(_, spot)
-        | Op::Unlock(_, _, spot)
-        | Op::CondEnter(_, spot)
-        | Op::CondWait(_, spot)
-        | Op::Spawn(_, _, _, spot)
-        | Op::Join(_, spot) => source_at_spot(spot),
-        Op::Skip(_) | Op::SkipIfZero(_, _) | Op::SkipIfNull(_, _) | Op::Jump(_) | Op::BlockEnd => {
-            no_place()
-        }
-        _ => straight_source(op),
+        Op::LoadGuard(_, spot) => Some(Spot {
+            mode: PlaceMode::Readonly,
+            ..spot
+        }),
+        _ => op.spot(),
     }
 }
 
-// The same of an operation that ends no straight piece.
-fn straight_source(op: Op) -> SourcePlace
-    requires straight { is_straight op ≡ true }
+fn source_of(op: Op) -> SourcePlace
     ensures { result ≡ source_of op }
 {
-    match op {
-        Op::Compute(_, _, _, _, _, spot)
-        | Op::Negate(_, _, _, spot)
-        | Op::ChkWidth(_, _, spot)
-        | Op::ChkNull(_, spot)
-        | Op::ChkPositive(_, spot)
-        | Op::ChkHeld(_, spot)
-        | Op::ChkNotHeld(_, spot)
-        | Op::ChkRoom(spot)
-        | Op::Bounds(_, _, _, _, spot)
-        | Op::GlobalBounds(_, _, _, _, spot)
-        | Op::Load(_, _, spot)
-        | Op::Store(_, _, spot)
-        | Op::LoadRef(_, _, spot)
-        | Op::StoreRef(_, _, spot)
-        | Op::New(_, _, _, spot)
-        | Op::CondSignal(_, spot)
-        | Op::CondBroadcast(_, spot)
-        | Op::Print(_, spot) => source_at_spot(spot),
-        Op::LoadGuard(_, spot) => SourcePlace {
-            mode: PlaceMode::Readonly,
-            ..source_at_spot(spot)
-        },
-        _ => no_place(),
+    match spot_of(op) {
+        None => no_place(),
+        Some(spot) => source_at_spot(spot),
     }
 }
 

@@ -1,6 +1,7 @@
 -- The lock paths among the modes of a type are those that are written in it.
 use Rattle.std.specs.Prelude.{ℕ, ◌+◌, ◌<◌, List, Option, Some, slice_index_or, Contains}
-use Rattle.sharc_tree.specs.{declared.ctype.Mode.Mode, declared.ctype.Mode.TheVariants.{Private, Readonly, Locked, Racy, Dynamic}}
+use Rattle.sharc_tree.specs.declared.ctype.Mode.{Mode}
+use Rattle.sharc_tree.specs.declared.ctype.Mode.TheVariants.{Private, Readonly, Locked, Racy, Dynamic}
 use Rattle.sharc_ctype.specs.{declared.entity.Numbered.Numbered, Entities.{entities_in, numbered, positions_of}}
 use Rattle.sharc_mode.specs.{Flows.IsLeastAssignment, Moded.Assignment}
 

@@ -1,5 +1,5 @@
 -- The code of a program: as a value, by computing, and that it is what the program is compiled to.
-use Rattle.sharc_instance_laws.proofs.{Imports.{◌≡◌, ℕ, ◌^◌, true, List, [], length, refl, le_refl, Vec, nat_lt, nat_le, null_ptr, functions_in, globals_in, Assignment, Code, Row, GlobalCells, FlatCode, Op, flat_of, flattened, Flattens, IsMainOf, names_of, FitsMade, globals_of, all_granules, all_first_words, layouts_of, pointers_of, guarded, dropped, Guarded, generated, IsCodeOf, IsCompiled, below, within}, Laying.{are_laid, are_named, behind_lines, behind_names, laid, named, further_names as names_behind}}
+use Rattle.sharc_instance_laws.proofs.{Imports.{◌≡◌, ℕ, ◌^◌, true, List, [], length, refl, le_refl, Vec, nat_lt, nat_le, null_ptr, functions_in, globals_in, Assignment, Code, Row, GlobalCells, FlatCode, LineTexts, Op, flat_of, flattened, Flattens, IsMainOf, names_of, FitsMade, globals_of, all_granules, all_first_words, layouts_of, pointers_of, guarded, dropped, Guarded, generated, IsCodeOf, IsCompiled, below, within}, Laying.{are_laid, are_named, behind_lines, behind_names, laid, named, further_names as names_behind}}
 use Rattle.std.specs.Global.{Global}
 use Rattle.sharc_guard.specs.Machine.{Program}
 
@@ -16,14 +16,14 @@ module _ (m : Assignment) where
   abbrev names : List (List ℕ)
   names = names_of (functions_in m.typed.program.items)
 
-  abbrev told : List Op
-  told = (flattened m globals).lines
-
   abbrev pub lines : List Op
-  lines = laid m.typed [] told
+  lines = (flattened m globals).lines
+
+  abbrev pub told : List LineTexts
+  told = laid m.typed [] lines
 
   abbrev behind : List ℕ
-  behind = behind_lines m.typed [] told
+  behind = behind_lines m.typed [] lines
 
   abbrev pub functions : List Row
   functions = named behind (flattened m globals).functions names
@@ -34,6 +34,7 @@ module _ (m : Assignment) where
   -- sizes that a program holds
   pub record AreSmall : Type 0 where
     pub lines : nat_lt (length lines) (2 ^ 63) ≡ true
+    pub told : nat_lt (length told) (2 ^ 63) ≡ true
     pub functions : nat_lt (length functions) (2 ^ 63) ≡ true
     pub globals : nat_lt (length globals) (2 ^ 63) ≡ true
     pub granules : nat_le (all_granules m.typed (globals_in m.typed.program.items)) 65536 ≡ true
@@ -46,6 +47,7 @@ module _ (m : Assignment) where
     abbrev pub flat : FlatCode
     flat = record {
       lines = held alloc lines small.lines;
+      told = held alloc told small.told;
       functions = held alloc functions small.functions;
       main = main;
       globals = held alloc globals small.globals;
@@ -60,11 +62,10 @@ module _ (m : Assignment) where
 
     pub flattens : IsMainOf m main → Flattens m flat
     flattens is = record {
-      lays = record {
-        lines = let w = names_behind behind names in are_laid m.typed texts [] told w.0 w.1;
-        functions = are_named m globals texts behind 0 (functions_in m.typed.program.items) refl;
-        globals = refl;
-      };
+      lines = refl;
+      told = let w = names_behind behind names in are_laid m.typed texts [] lines w.0 w.1;
+      functions = are_named m globals texts behind 0 (functions_in m.typed.program.items) refl;
+      globals = refl;
       main = is;
       granules = refl;
       initial = refl;

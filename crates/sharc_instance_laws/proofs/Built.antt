@@ -48,7 +48,7 @@ shape_of globals = record { threads = 31; globals = globals; heap = 16 }
 module _ (alloc : Global) (rules : RulesAreMet) (laws : RunLaws) where
   -- ---- the locking program
   locking_small : AreSmall locking
-  locking_small = record { lines = refl; functions = refl; globals = refl; granules = refl; initial = refl; layouts = refl; pointers = refl; texts = refl }
+  locking_small = record { lines = refl; told = refl; functions = refl; globals = refl; granules = refl; initial = refl; layouts = refl; pointers = refl; texts = refl }
 
   abbrev locking_code : Code
   locking_code = building.code locking alloc locking_small 1 refl refl refl refl
@@ -91,7 +91,7 @@ module _ (alloc : Global) (rules : RulesAreMet) (laws : RunLaws) where
 
   -- ---- the sharing program
   sharing_small : AreSmall sharing
-  sharing_small = record { lines = refl; functions = refl; globals = refl; granules = refl; initial = refl; layouts = refl; pointers = refl; texts = refl }
+  sharing_small = record { lines = refl; told = refl; functions = refl; globals = refl; granules = refl; initial = refl; layouts = refl; pointers = refl; texts = refl }
 
   abbrev sharing_code : Code
   sharing_code = building.code sharing alloc sharing_small 0 refl refl refl refl

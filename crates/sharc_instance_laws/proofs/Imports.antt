@@ -17,7 +17,7 @@ pub use Rattle.sharc_meaning.specs.{Events.{Access, Stands, access_by, events_of
 pub use Rattle.sharc_word.specs.declared.step.WordStep.{WordStep}
 unfoldable pub use Rattle.sharc_heap.specs.Block.{block_of, doubled}
 pub use Rattle.sharc_code.specs.{Laws.RunLaws, Layout.Fits, Machine.{Machine, instr_at}, Opening.opening_words, Path.{may_go, most_ints, most_refs}, Ranges.{GlobalsFit, NumbersFit, end_place, first_place}, Runs.{Answered, Global, IsOf, IsRun, MayTurn, OneThread, Owns, Said, Turn, after_turn, at, is_started, made_event, made_now, opening_of, paired, result_of, step_of, told_by, turn_by, with_told}, Says.{IsSaidBy, TurnsTell}, StandingLaws.NumbersAreOwn, Waits.waits_now, Whole.{Erase, IsStuck, bounds, one_thread, place_after}, declared.code.Code.Code, declared.code.Function.{Function as Row}, declared.code.GlobalCells.GlobalCells, declared.code.Text.Text, declared.instr.Instr.Instr, declared.shape.Shape.Shape, declared.state.Stop.Stop, declared.state.Stop.TheVariants.NotSole, declared.state.TheConstants.FRAMES}
-pub use Rattle.sharc_flat.specs.{Flattened.{flattened, function_code, rows_of}, Flattens.{Flattens, IsMainOf, names_of}, Laid.{AreLaid, AreNamed, AreTextsIn, lies_at, lock_text_of, spot_in, with_texts, words_of}, Laws.FitsMade, Machine.Flat, Made.flat_of, Tables.{all_first_words, all_granules, globals_of, layouts_of, pointers_of}, declared.flat.Flat.{Flat as FlatCode}, declared.op.Op.Op, declared.op.Spot.Spot}
+pub use Rattle.sharc_flat.specs.{Flattened.{flattened, function_code, rows_of}, Flattens.{Flattens, IsMainOf, names_of}, Laid.{AreNamed, AreTold, lies_at, lock_bytes, lvalue_bytes, spot_in}, Laws.FitsMade, Machine.Flat, Made.flat_of, Tables.{all_first_words, all_granules, globals_of, layouts_of, pointers_of}, declared.flat.{Flat.Flat as FlatCode, LineTexts.LineTexts}, declared.op.Op.Op}
 pub use Rattle.sharc_guard.specs.{Guard.guarded, Known.dropped, declared.guarded.Guarded.Guarded}
 pub use Rattle.sharc_compile.specs.{Generated.generated, Made.IsCodeOf, OfRuns.told_in}
 pub use Rattle.sharc_front_end.specs.{Compiled.IsCompiled, Front.IsFront}

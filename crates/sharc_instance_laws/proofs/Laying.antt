@@ -1,5 +1,5 @@
 -- Texts laid one behind the other: of the lines and the functions of flat code, and that each lies where it is said to lie.
-use Rattle.sharc_instance_laws.proofs.Imports.{◌≡◌, ℕ, ◌+◌, ◌-◌, List, [], ◌∷◌, ◌++◌, length, take, drop, None, Some, refl, sym, ap, ◌∙◌, append_assoc, append-nil, length-append, arith, Option, Function, Row, GlobalCells, Text, Resolution, Assignment, Op, Spot, function_code, rows_of, names_of, AreLaid, AreNamed, AreTextsIn, lies_at, lock_text_of, spot_in, with_texts, words_of}
+use Rattle.sharc_instance_laws.proofs.Imports.{◌≡◌, ℕ, ◌+◌, ◌-◌, List, [], ◌∷◌, ◌++◌, length, take, drop, refl, sym, ap, ◌∙◌, append_assoc, append-nil, length-append, arith, Function, Row, GlobalCells, Text, Resolution, Assignment, LineTexts, Op, function_code, rows_of, names_of, AreTold, AreNamed, lies_at, lock_bytes, lvalue_bytes, spot_in}
 
 -- ---- one text among others
 drops : (pre y : List ℕ) → drop (length pre) (pre ++ y) ≡ y
@@ -25,20 +25,12 @@ lies bytes pre x post is =
 
 -- ---- lines
 module _ (r : Resolution) where
-  abbrev pub lvalue_of : Option Spot → List ℕ
-  lvalue_of None = []
-  lvalue_of (Some spot) = words_of r spot.lvalue.from spot.lvalue.until
-
-  abbrev pub lock_of : Option Spot → List ℕ
-  lock_of None = []
-  lock_of (Some spot) = lock_text_of r spot.mode spot.lvalue spot.lock_text
-
   abbrev pub behind_line : List ℕ → Op → List ℕ
-  behind_line pre o = (pre ++ lvalue_of (spot_in o)) ++ lock_of (spot_in o)
+  behind_line pre o = (pre ++ lvalue_bytes r (spot_in o)) ++ lock_bytes r (spot_in o)
 
-  abbrev pub laid : List ℕ → List Op → List Op
+  abbrev pub laid : List ℕ → List Op → List LineTexts
   laid pre [] = []
-  laid pre (o ∷ os) = with_texts (text_behind pre (lvalue_of (spot_in o))) (text_behind (pre ++ lvalue_of (spot_in o)) (lock_of (spot_in o))) o ∷ laid (behind_line pre o) os
+  laid pre (o ∷ os) = record { lvalue = text_behind pre (lvalue_bytes r (spot_in o)); lock = text_behind (pre ++ lvalue_bytes r (spot_in o)) (lock_bytes r (spot_in o)) } ∷ laid (behind_line pre o) os
 
   abbrev pub behind_lines : List ℕ → List Op → List ℕ
   behind_lines pre [] = pre
@@ -48,28 +40,20 @@ module _ (r : Resolution) where
   further pre [] = ([], sym (append-nil pre))
   further pre (o ∷ os) =
       let w = further (behind_line pre o) os in
-      let x = lvalue_of (spot_in o) in
-      let y = lock_of (spot_in o) in
+      let x = lvalue_bytes r (spot_in o) in
+      let y = lock_bytes r (spot_in o) in
       (x ++ (y ++ w.0), w.1 ∙ append_assoc (pre ++ x) y w.0 ∙ append_assoc pre x (y ++ w.0))
 
-  texts_in : (bytes : List ℕ) (o : Option Spot) (a b : Text) → lies_at bytes a ≡ lvalue_of o → lies_at bytes b ≡ lock_of o → AreTextsIn r bytes o a b
-  texts_in bytes None a b p q = tt
-  texts_in bytes (Some spot) a b p q = record { lvalue = p; lock = q }
-
-  pub are_laid : (bytes pre : List ℕ) (os : List Op) (post : List ℕ) → bytes ≡ behind_lines pre os ++ post → AreLaid r bytes os (laid pre os)
+  pub are_laid : (bytes pre : List ℕ) (os : List Op) (post : List ℕ) → bytes ≡ behind_lines pre os ++ post → AreTold r bytes os (laid pre os)
   are_laid bytes pre [] post is = tt
   are_laid bytes pre (o ∷ os) post is =
-      let x = lvalue_of (spot_in o) in
-      let y = lock_of (spot_in o) in
+      let x = lvalue_bytes r (spot_in o) in
+      let y = lock_bytes r (spot_in o) in
       let w = further (behind_line pre o) os in
       let all : bytes ≡ (pre ++ x) ++ (y ++ (w.0 ++ post)) = is ∙ ap (λ (l : List ℕ). l ++ post) w.1 ∙ append_assoc ((pre ++ x) ++ y) w.0 post ∙ append_assoc (pre ++ x) y (w.0 ++ post) in (
         record {
-          lvalue = text_behind pre x;
-          lock = text_behind (pre ++ x) y;
-          is = refl;
-          texts = texts_in bytes (spot_in o) (text_behind pre x) (text_behind (pre ++ x) y)
-              (lies bytes pre x (y ++ (w.0 ++ post)) (all ∙ append_assoc pre x (y ++ (w.0 ++ post))))
-              (lies bytes (pre ++ x) y (w.0 ++ post) all);
+          lvalue = lies bytes pre x (y ++ (w.0 ++ post)) (all ∙ append_assoc pre x (y ++ (w.0 ++ post)));
+          lock = lies bytes (pre ++ x) y (w.0 ++ post) all;
         },
         are_laid bytes (behind_line pre o) os post is,
       )

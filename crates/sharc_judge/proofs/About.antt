@@ -1,7 +1,7 @@
 -- Which events are about a topic.
-use Rattle.std.proofs.{Common.{◌≡◌, ◌⊎◌, inl, inr, ℕ, Bool, true, false, ◌&&◌, ◌||◌, refl, ap, sym, ◌∙◌}, lemmas.Bool.{cases_eq, eq-eqb, ne_eqb, or_from}}
+use Rattle.std.proofs.{Common.{◌≡◌, inl, inr, ℕ, Bool, true, false, ◌&&◌, ◌||◌, refl, ap, sym, ◌∙◌}, lemmas.Bool.{cases_eq, eq-eqb, ne_eqb, or_from}}
 use Rattle.std.specs.{Prelude.{◌==◌, pos, negsuc, ℤ, Some, None, Option}, List.list_any, Bool.Decides, Cmp.signed_Decides, Ordering.int_eq}
-use Rattle.sharc_tree.specs.{declared.event.Act.Act, declared.event.CellAt.CellAt, declared.event.CellMode.CellMode, declared.event.CellMode.TheVariants.{Private, Readonly, Locked, Racy, Dynamic}, declared.event.Object.Object, declared.event.Object.TheVariants.{Global, Made}, declared.event.SourceEvent.SourceEvent, declared.event.Taken.TheVariants.Cell}
+use Rattle.sharc_tree.specs.{declared.event.Act.Act, declared.event.CellAt.CellAt, declared.event.CellMode.CellMode, declared.event.CellMode.TheVariants.{Private, Dynamic}, declared.event.Object.Object, declared.event.Object.TheVariants.{Global, Made}, declared.event.SourceEvent.SourceEvent, declared.event.Taken.TheVariants.Cell}
 use Rattle.sharc_tree.specs.declared.event.Act.TheVariants as acts
 use Rattle.sharc_meaning.specs.{Events.{same_object, same_cell, is_number, made_by, given_by, freed_by, locked_by, unlocked_by, is_cell, Access, access_by, granule_of}, Obeys.{ends, until_return}, Store.{cell_changed, is_spawn, is_gone, is_natural}}
 use Rattle.sharc_judge.specs.{Deciding.is_dynamic, declared.topics.Topic.Topic, declared.keys.CellKey.CellKey, declared.keys.GranuleKey.GranuleKey, Reads.{same_granule, is_shared, is_write}, Topics.{object_key, cell_key, granule_key, changing, topics_by, same_topic}}

@@ -2,7 +2,7 @@
 use Rattle.std.proofs.{Common.{◌≡◌, true, subst, Option, Some, None, refl, ap, ◌∙◌}, lemmas.Bool.{eqb-true, eq-eqb, and_parts, and_from}}
 use Rattle.sharc_tree.specs.{declared.event.CellAt.CellAt, declared.event.CellMode.CellMode, declared.event.CellMode.TheVariants.{Private, Readonly, Locked, Racy, Dynamic}, declared.event.Object.Object, declared.event.Object.TheVariants.{Global, Made}}
 use Rattle.sharc_meaning.specs.Events.{same_object, same_cell}
-use Rattle.sharc_judge.specs.{Deciding.{same_mutex, same_mode}, Laws.{EqualObjects, EqualCells, EqualModes}}
+use Rattle.sharc_judge.specs.{Deciding.{same_mutex, same_mode, is_dynamic}, Laws.{EqualObjects, EqualCells, EqualModes}}
 
 pub equal_objects : (a b : Object) → same_object a b ≡ true → a ≡ b
 equal_objects (Global g) (Global h) e = ap Global (eqb-true g h e)
@@ -57,3 +57,7 @@ cells a b = (equal_cells a b, λ e. subst (λ z. same_cell a z ≡ true) e (same
 
 pub modes : EqualModes
 modes a b = (equal_modes a b, λ e. subst (λ z. same_mode a z ≡ true) e (same_mode_itself a))
+
+pub dynamic_is : (mode : CellMode) → is_dynamic mode ≡ true → mode ≡ Dynamic
+dynamic_is Dynamic h = refl
+dynamic_is _ h = absurd (cc)

@@ -1,5 +1,5 @@
 -- Which mutexes a thread holds, by the last event of each that is its own.
-use Rattle.std.proofs.{Common.{◌≡◌, ◌⊎◌, inl, inr, ℕ, ◌==◌, Bool, true, false, ◌&&◌, ◌||◌, List, [], ◌∷◌, ◌++◌, Option, Some, None, refl, ap, sym, ◌∙◌}, lemmas.Bool.{and_parts, and_from, and_left, and_right, or_left, or_right, or_cases, or_parts, or_from, not_from_true, not_from_false, both_ways, false_from_ne_true}, lemmas.List.Folds.list_any-append}
+use Rattle.std.proofs.{Common.{◌≡◌, inl, inr, ℕ, ◌==◌, Bool, true, false, ◌&&◌, ◌||◌, List, [], ◌∷◌, ◌++◌, Option, Some, None, refl, ap, sym, ◌∙◌}, lemmas.Bool.{and_parts, and_from, and_left, and_right, or_left, or_right, or_cases, or_parts, or_from, not_from_true, not_from_false, both_ways, false_from_ne_true}, lemmas.List.Folds.list_any-append}
 use Rattle.std.specs.List.{list_any}
 use Rattle.sharc_tree.specs.{declared.event.CellAt.CellAt, declared.event.SourceEvent.SourceEvent}
 use Rattle.sharc_meaning.specs.Events.{locks, unlocks, Stands}

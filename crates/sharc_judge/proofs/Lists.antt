@@ -1,5 +1,5 @@
 -- Lists of events, one event more at a time.
-use Rattle.std.proofs.{Common.{◌≡◌, ℕ, ◌+◌, ◌<◌, List, [], ◌∷◌, ◌++◌, take, length, slice_index_or, if◌then◌else◌, sym, subst, ◌∙◌, add-one}, Math.Seq.take-suc}
+use Rattle.std.proofs.{Common.{◌≡◌, ℕ, ◌+◌, ◌<◌, List, [], ◌∷◌, ◌++◌, take, length, slice_index_or, sym, subst, add-one}, Math.Seq.take-suc}
 use Rattle.sharc_tree.specs.declared.event.SourceEvent.{SourceEvent}
 use Rattle.sharc_ctype.specs.Resolved.{Resolution}
 use Rattle.sharc_meaning.specs.{Laws.StoresGrow, Store.{MayCome, LegalStore}}

@@ -1,5 +1,5 @@
 -- The mode of a cell: where no access so far was under another mode, the last one tells.
-use Rattle.std.proofs.{Common.{◌≡◌, ◌⊎◌, inl, inr, Bool, true, false, not, ◌&&◌, List, ◌∷◌, ◌++◌, Option, Some, None, refl, ap, sym, subst, ◌∙◌, arith}, lemmas.Bool.{and_parts, and_from, and_cases, and_left, and_right, not_from_true, not_from_false, not-false, both_ways, false_from_ne_true}}
+use Rattle.std.proofs.{Common.{◌≡◌, inl, inr, Bool, true, false, not, ◌&&◌, List, ◌∷◌, ◌++◌, Option, Some, None, refl, ap, sym, subst, ◌∙◌, arith}, lemmas.Bool.{and_parts, and_from, and_cases, and_left, and_right, not_from_true, not_from_false, not-false, both_ways, false_from_ne_true}}
 use Rattle.std.specs.List.{list_any}
 use Rattle.sharc_tree.specs.{declared.event.CellAt.CellAt, declared.event.Object.Object, declared.event.Object.TheVariants.{Global, Made}, declared.event.SourceEvent.SourceEvent}
 use Rattle.sharc_meaning.specs.Events.{same_cell, Access, access_by, Stands}

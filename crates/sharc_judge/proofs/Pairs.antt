@@ -1,5 +1,5 @@
 -- Tests at each place of a list.
-use Rattle.std.proofs.{Common.{◌≡◌, Bool, false, ◌||◌, List, [], ◌∷◌, ◌++◌, refl, ap, sym, ◌∙◌, append_assoc, append-nil}, lemmas.Bool.{or_parts as neither, or_from as none_of}}
+use Rattle.std.proofs.{Common.{◌≡◌, Bool, false, List, [], ◌∷◌, ◌++◌, refl, ap, sym, ◌∙◌, append_assoc, append-nil}, lemmas.Bool.{or_parts as neither, or_from as none_of}}
 use Rattle.sharc_tree.specs.declared.event.SourceEvent.{SourceEvent}
 use Rattle.sharc_meaning.specs.Events.{Stands}
 use Rattle.sharc_judge.specs.Deciding.{any_place}

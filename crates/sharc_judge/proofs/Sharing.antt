@@ -1,22 +1,18 @@
 -- Accesses of a granule by several threads: where no two so far conflict, the last write tells, and the reads since.
 use Rattle.std.proofs.{Common.{◌≡◌, ◌⊎◌, inl, inr, ℕ, ◌+◌, ◌==◌, Bool, true, false, not, ◌&&◌, ◌||◌, List, [], length, Option, Some, None, refl, ap, sym, ◌∙◌, arith}, lemmas.Bool.{and_parts, and_from, and_cases, or_cases, or_from, or_left, or_right, not_from_false, not-true, not-false, both_ways, false_from_ne_true, eqb-true, eq-eqb}}
 use Rattle.std.specs.List.{list_any}
-use Rattle.sharc_tree.specs.{declared.event.CellMode.CellMode, declared.event.CellMode.TheVariants.{Private, Readonly, Locked, Racy, Dynamic}, declared.event.Object.Object, declared.event.Object.TheVariants.{Global, Made}, declared.event.SourceEvent.SourceEvent}
+use Rattle.sharc_tree.specs.{declared.event.Object.Object, declared.event.Object.TheVariants.{Global, Made}, declared.event.SourceEvent.SourceEvent}
 use Rattle.sharc_meaning.specs.Events.{same_object, granule_of, Access, access_by, Stands}
 use Rattle.sharc_judge.specs.{declared.access.CellAccess.CellAccess, declared.pair.Until.TheVariants.Return, Deciding.{is_dynamic, conflicts, test_of, any_pair, pair_of, view_access, of_access, beside}, Laws.{Unbroken, SameLaws}, declared.keys.GranuleKey.GranuleKey, declared.table.Noted.Noted, Latest.{latest_at, latest_about, last_begin, is_behind}, Reads.{same_granule, is_shared, is_write, reads_of, is_against, against_noted, against_write, against_reads}, Topics.granule_key}
 use Rattle.sharc_judge.specs.declared.history.Test.TheVariants as test
 use Rattle.sharc_judge.specs.declared.pair.Pair.TheVariants as pair
 use Rattle.sharc_judge.specs.declared.rule.Rule.TheVariants as rule
 use Rattle.sharc_judge.specs.declared.topics.Topic.TheVariants as topic
-use Rattle.sharc_judge.proofs.{About.{same_granules_on, about_shared, about_begin, about_return}, Latest.{IsLast, last_stands, none_meets, latest_same, latest_never, behind_is}, PlacePairs.{at_each_pair, from_each_pair, pair_found, Behind, Order, in_order, none_between, none_after, none_at}, Reading.{IsRead, read_found, writes, read_is_there}}
+use Rattle.sharc_judge.proofs.{Alike.dynamic_is, About.{same_granules_on, about_shared, about_begin, about_return}, Latest.{IsLast, last_stands, none_meets, latest_same, latest_never, behind_is}, PlacePairs.{at_each_pair, from_each_pair, pair_found, Behind, Order, in_order, none_between, none_after, none_at}, Reading.{read_found, writes, read_is_there}}
 
 pub last_begin_is : (o : Object) (R : List SourceEvent) → last_begin o R ≡ latest_at (test_of (test.Begins o)) R
 last_begin_is (Global g) R = sym (latest_never (test_of (test.Begins (Global g))) R (λ e. refl))
 last_begin_is (Made n) R = latest_same _ (test_of (test.Begins (Made n))) R (λ e. about_begin n e e.act)
-
-dynamic_is : (mode : CellMode) → is_dynamic mode ≡ true → mode ≡ Dynamic
-dynamic_is Dynamic h = refl
-dynamic_is _ h = absurd (cc)
 
 all_true : (b : Bool) → (b && (true && true)) ≡ b
 all_true true = refl

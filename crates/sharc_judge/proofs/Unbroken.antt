@@ -1,14 +1,14 @@
 -- A rule of the modes holds exactly where no access breaks it.
-use Rattle.std.proofs.{Common.{◌≡◌, ◌≢◌, ◌↔◌, ◌⊎◌, inl, inr, ℕ, ◌==◌, Bool, true, false, not, ◌&&◌, ◌||◌, List, [], ◌∷◌, ◌++◌, Option, Some, None, refl, ap, sym, subst, ◌∙◌, append_assoc}, lemmas.Bool.{cases_Bool, not-true, not-false, not_from_true, not_from_false, both_ways, and_parts, and_from, and_cases, and_left, and_right, or_parts, or_from, eqb-true, eq-eqb, ne_eqb, false_from_ne_true as no_conflict}, lemmas.List.Folds.list_any-append}
+use Rattle.std.proofs.{Common.{◌≡◌, ◌≢◌, ◌↔◌, inl, inr, ℕ, ◌==◌, Bool, true, false, not, ◌&&◌, ◌||◌, List, [], ◌∷◌, ◌++◌, Option, Some, None, refl, ap, sym, subst, ◌∙◌, append_assoc, length, length-append, arith}, lemmas.Bool.{cases_Bool, not-true, not-false, not_from_true, not_from_false, both_ways, and_parts, and_from, and_cases, and_left, and_right, or_parts, or_from, eqb-true, eq-eqb, ne_eqb, false_from_ne_true as no_conflict}, lemmas.List.Folds.list_any-append, Math.Bool.or_comm}
 use Rattle.std.specs.List.{list_any}
-use Rattle.sharc_tree.specs.{declared.event.Act.Act, declared.event.Act.TheVariants.{Read, Write, New, Take, Give, Freed, Lock, Unlock, Spawn, Started, Join, Print, Return, Gone, Enter, Woken, Signal, Broadcast}, declared.event.CellAt.CellAt, declared.event.CellMode.CellMode, declared.event.CellMode.TheVariants.{Private, Readonly, Locked, Racy, Dynamic}, declared.event.Object.Object, declared.event.Object.TheVariants.{Global, Made}, declared.event.SourceEvent.SourceEvent}
+use Rattle.sharc_tree.specs.{declared.event.Act.Act, declared.event.Act.TheVariants.{Read, Write, Take}, declared.event.CellAt.CellAt, declared.event.CellMode.CellMode, declared.event.CellMode.TheVariants.{Private, Readonly, Locked, Dynamic}, declared.event.Object.Object, declared.event.Object.TheVariants.{Global, Made}, declared.event.SourceEvent.SourceEvent}
 use Rattle.sharc_meaning.specs.{Events.{same_object, same_cell, granule_of, Access, access_by, begins, frees, locks, unlocks, unless_unlocked, locked_by, held_mutexes, holds_mutex, is_of, events_of, Stands}, Obeys.{IsAccess, AccessSet, ends, IsThere, ToLive, UnderOneMode, is_owner, ByOwner, Unwritten, UnderLock, ReadSharedOrOwn}}
 use Rattle.sharc_meaning.specs.Obeys as obeys
 use Rattle.sharc_judge.specs.declared.history.Test.TheVariants as test
 use Rattle.sharc_judge.specs.declared.pair.Pair.TheVariants as pair
-use Rattle.sharc_judge.specs.{declared.pair.Until.Until, declared.rule.Rule.Rule, Deciding.{view_until, same_mode, is_dynamic, test_of, any_place, any_pair, pair_of, disagrees, conflicts, is_there, not_by_owner, is_written, without_lock, beside, breaks, of_access, breaks_with, breaks_by}, Judged.Holds, Laws.{Unbroken, HoldsUnbroken}}
+use Rattle.sharc_judge.specs.{declared.pair.Until.Until, declared.rule.Rule.Rule, Deciding.{view_until, same_mode, is_dynamic, test_of, any_place, any_pair, pair_of, disagrees, conflicts, is_there, not_by_owner, is_written, without_lock, beside, breaks, of_access, breaks_with, breaks_by}, Judged.Holds, Laws.{Unbroken, HoldsUnbroken, UnbrokenMore}}
 use Rattle.sharc_judge.specs.declared.rule.Rule.TheVariants as rule
-use Rattle.sharc_judge.proofs.{Alike.{equal_objects, same_as_itself, equal_cells, same_cell_itself, equal_modes, same_mode_itself}, Pairs.{at_each, from_each}, PlacePairs.{at_each_pair, from_each_pair, Behind, Order, in_order}}
+use Rattle.sharc_judge.proofs.{Alike.{equal_objects, same_as_itself, equal_cells, same_cell_itself, equal_modes, same_mode_itself, dynamic_is}, Pairs.{at_each, from_each}, PlacePairs.{at_each_pair, from_each_pair, Behind, Order, in_order}}
 
 unbroken : (rule : Rule) (u : Until) (R : List SourceEvent) → any_place (breaks_by rule u) [] R ≡ false → Unbroken rule u R
 unbroken rule u R h before e after a stands is = ap (breaks_with rule u before e.thread) (sym is) ∙ at_each (breaks_by rule u) [] R h before e after stands
@@ -19,6 +19,14 @@ found_unbroken rule u R h = from_each (breaks_by rule u) [] R (λ b e a stands. 
     by_access : (b : List SourceEvent) (e : SourceEvent) (a : List SourceEvent) → Stands R b e a → (o : Option Access) → access_by e.act ≡ o → breaks_by rule u b e ≡ false
     by_access b e a stands None is = ap (breaks_with rule u b e.thread) is
     by_access b e a stands (Some x) is = ap (breaks_with rule u b e.thread) is ∙ h b e a x stands is
+
+pub unbroken_more : UnbrokenMore
+unbroken_more rule u R e old new before d after a stands is = by_order (in_order (R ++ e ∷ []) before d after R e [] stands refl)
+  where
+    by_order : Order before d after R e [] → breaks rule u before d.thread (of_access a) ≡ false
+    by_order (inl s) = ap (breaks_with rule u before d.thread) (sym is) ∙ ap (λ z. breaks_by rule u z d) s.before ∙ ap (breaks_by rule u R) s.event ∙ new
+    by_order (inr (inl o)) = old before d o.between a o.before is
+    by_order (inr (inr o)) = absurd (let k = ap length o.after in let l = length-append o.between (d ∷ after) in omega (arith, k, l))
 
 -- ---- 1
 
@@ -134,10 +142,10 @@ unwritten_is u R = (λ h before e after a stands is m. unwritten a.mode a.is_wri
 
 -- ---- 5
 
--- what is unlocked by none of the events of the thread is unlocked by none of all by this thread
-own_any : (c : CellAt) (thread : ℕ) (l : List SourceEvent) → list_any (unlocks c) (events_of thread l) ≡ list_any (test_of (test.Unlocks c thread)) l
-own_any c thread [] = refl
-own_any c thread (e ∷ l) = elim (cases_Bool (is_of thread e)) [ inl i ↦ rw (i) (ap (λ z. unlocks c e || z) (own_any c thread l)) | inr i ↦ rw (i) (own_any c thread l) ]
+-- what none of the events of the thread does, none of all does by this thread
+own_any : (p : SourceEvent → Bool) (thread : ℕ) (l : List SourceEvent) → list_any p (events_of thread l) ≡ list_any (λ e. (e.thread == thread) && p e) l
+own_any p thread [] = refl
+own_any p thread (e ∷ l) = elim (cases_Bool (is_of thread e)) [ inl i ↦ rw (i) (ap (λ z. p e || z) (own_any p thread l)) | inr i ↦ rw (i) (own_any p thread l) ]
 
 -- a Lock of the mutex that no later event unlocks
 abbrev locks_on : CellAt → Option CellAt → List SourceEvent → Bool
@@ -170,7 +178,7 @@ held_is c thread (e ∷ l) = by_cases (held_is c thread l) (is_of thread e) refl
     by_cases : holds_mutex (events_of thread l) c ≡ any_pair (pair_of (pair.Holds c thread)) l → (b : Bool) → is_of thread e ≡ b → holds_mutex (events_of thread (e ∷ l)) c ≡ any_pair (pair_of (pair.Holds c thread)) (e ∷ l)
     by_cases more true i = rw (i)
         (held_first c (locked_by e.act) (events_of thread l) ∙ ap (λ z. z || holds_mutex (events_of thread l) c) (locks_on_is c e (events_of thread l))
-        ∙ ap (λ z. (locks c e && not z) || holds_mutex (events_of thread l) c) (own_any c thread l) ∙ ap (λ z. (locks c e && not (list_any (test_of (test.Unlocks c thread)) l)) || z) more)
+        ∙ ap (λ z. (locks c e && not z) || holds_mutex (events_of thread l) c) (own_any (unlocks c) thread l) ∙ ap (λ z. (locks c e && not (list_any (test_of (test.Unlocks c thread)) l)) || z) more)
     by_cases more false i = rw (i) more
 
 under : (m : CellMode) (before : List SourceEvent) (thread : ℕ) → without_lock m before thread ≡ false → (c : CellAt) → m ≡ Locked (Some c) → holds_mutex (events_of thread before) c ≡ true
@@ -189,19 +197,11 @@ under_lock_is u R = (
 
 -- ---- 6
 
-own_ends : (u : Until) (thread : ℕ) (l : List SourceEvent) → list_any (λ d. ends (view_until u) d.act) (events_of thread l) ≡ list_any (test_of (test.Ends u thread)) l
-own_ends u thread [] = refl
-own_ends u thread (e ∷ l) = elim (cases_Bool (is_of thread e)) [ inl i ↦ rw (i) (ap (λ z. ends (view_until u) e.act || z) (own_ends u thread l)) | inr i ↦ rw (i) (own_ends u thread l) ]
-
 front_none : (p : SourceEvent → Bool) (l m : List SourceEvent) → list_any p (l ++ m) ≡ false → list_any p l ≡ false
 front_none p l m h = (or_parts _ _ (sym (list_any-append p l m) ∙ h)).0
 
 with_one : (p : SourceEvent → Bool) (l : List SourceEvent) (e : SourceEvent) → list_any p l ≡ false → p e ≡ false → list_any p (l ++ e ∷ []) ≡ false
 with_one p l e h i = list_any-append p l (e ∷ []) ∙ or_from _ _ h (or_from _ _ i refl)
-
-dynamic : (m : CellMode) → is_dynamic m ≡ true → m ≡ Dynamic
-dynamic Dynamic h = refl
-dynamic _ h = absurd (cc)
 
 -- a pair that conflicts
 record Conflict (u : Until) (thread : ℕ) (b : Access) (d : SourceEvent) (between : List SourceEvent) : Type 0 where
@@ -231,7 +231,7 @@ conflict u thread b d between h = by_access (access_by d.act) refl (and_parts _ 
           access = a;
           is = i;
           other = λ e. both_ways _ (not-true _ first.0) (eq-eqb d.thread thread e);
-          mode = dynamic a.mode same.0;
+          mode = dynamic_is a.mode same.0;
           object = equal_objects a.cell.object b.cell.object places.0;
           granule = eqb-true _ _ last.0;
           write = last.1;
@@ -276,14 +276,8 @@ later_breaks u R o granule earlier later d e a b parts x y other order h = no_co
       granule = x.granule_is ∙ sym y.granule_is;
       write = w;
       begun = front_none (begins b.cell.object) order.between (e ∷ y.after) (subst (λ z. list_any (begins z) (order.between ++ e ∷ y.after) ≡ false) (sym y.object) (ap (list_any (begins o)) (sym order.after) ∙ x.begun));
-      ended = front_none (test_of (test.Ends u d.thread)) order.between (e ∷ y.after) (ap (list_any (test_of (test.Ends u d.thread))) (sym order.after) ∙ sym (own_ends u d.thread x.after) ∙ x.ended);
+      ended = front_none (test_of (test.Ends u d.thread)) order.between (e ∷ y.after) (ap (list_any (test_of (test.Ends u d.thread))) (sym order.after) ∙ sym (own_any (λ x. ends (view_until u) x.act) d.thread x.after) ∙ x.ended);
     }
-
-or_turned : (a b : Bool) → a || b ≡ b || a
-or_turned true true = refl
-or_turned true false = refl
-or_turned false true = refl
-or_turned false false = refl
 
 shared_is : (u : Until) (R : List SourceEvent) → Unbroken rule.ReadSharedOrOneThread u R ↔ ReadSharedOrOwn R (view_until u)
 shared_is u R = (there_is_none, none_is_there)
@@ -294,7 +288,7 @@ shared_is u R = (there_is_none, none_is_there)
         by_order : Order x.before d x.after y.before e y.after → a.is_write || b.is_write ≡ false
         by_order (inl same) = absurd (other (ap (λ (z : SourceEvent). z.thread) same.event))
         by_order (inr (inl order)) = later_breaks u R o granule earlier later d e a b parts x y other order h
-        by_order (inr (inr order)) = or_turned a.is_write b.is_write ∙ later_breaks u R o granule earlier later e d b a parts y x (λ i. other (sym i)) order h
+        by_order (inr (inr order)) = or_comm a.is_write b.is_write ∙ later_breaks u R o granule earlier later e d b a parts y x (λ i. other (sym i)) order h
 
     none_is_there : ReadSharedOrOwn R (view_until u) → Unbroken rule.ReadSharedOrOneThread u R
     none_is_there h before e after b stands is = beside_none b.mode u before e.thread b (λ m. from_each_pair (pair_of (pair.Conflicts u e.thread (of_access b))) before
@@ -313,7 +307,7 @@ shared_is u R = (there_is_none, none_is_there)
               granule_is = c.granule;
               is_dynamic = c.mode;
               begun = with_one (begins o) between e c.begun (p.begins_none o);
-              ended = own_ends u d.thread (between ++ e ∷ []) ∙ with_one (test_of (test.Ends u d.thread)) between e c.ended (and_right _ _ (p.ends_none (view_until u)));
+              ended = own_any (λ x. ends (view_until u) x.act) d.thread (between ++ e ∷ []) ∙ with_one (test_of (test.Ends u d.thread)) between e c.ended (and_right _ _ (p.ends_none (view_until u)));
             } in
             let late : AccessSet (before ++ e ∷ []) o (granule_of b.cell) (view_until u) e b = record {
               before = before;

@@ -1,11 +1,11 @@
 -- What the tests of this crate are to those who argue with them.
-use Rattle.std.specs.Prelude.{◌≡◌, ◌↔◌, true, false, List}
+use Rattle.std.specs.Prelude.{◌≡◌, ◌↔◌, true, false, List, [], ◌∷◌, ◌++◌}
 use Rattle.sharc_tree.specs.{declared.event.CellAt.CellAt, declared.event.CellMode.CellMode}
 use Rattle.sharc_tree.specs.{declared.event.Object.Object, declared.event.SourceEvent.SourceEvent}
 use Rattle.sharc_meaning.specs.{Events.{same_object, same_cell, Access, Stands}, Obeys.{IsAccess, Obeys}}
 use Rattle.sharc_meaning.specs.Obeys as obeys
 use Rattle.sharc_judge.specs.{declared.pair.Until.Until, declared.rule.Rule.Rule}
-use Rattle.sharc_judge.specs.{Deciding.{view_until, same_mode, of_access, breaks}, Judged.Holds}
+use Rattle.sharc_judge.specs.{Deciding.{view_until, same_mode, of_access, breaks, breaks_by}, Judged.Holds}
 
 -- ---- the rules
 
@@ -18,12 +18,18 @@ Unbroken rule u R = (before : List SourceEvent) (e : SourceEvent) (after : List 
 abbrev pub HoldsUnbroken : Type 0
 HoldsUnbroken = (rule : Rule) (u : Until) (R : List SourceEvent) → Unbroken rule u R ↔ Holds R (view_until u) rule
 
+-- one event more, which breaks it not
+abbrev pub UnbrokenMore : Type 0
+UnbrokenMore = (rule : Rule) (u : Until) (R : List SourceEvent) (e : SourceEvent)
+    → Unbroken rule u R → breaks_by rule u R e ≡ false → Unbroken rule u (R ++ e ∷ [])
+
 -- a list obeys exactly where each rule holds
 abbrev pub ObeysEach : Type 0
 ObeysEach = (R : List SourceEvent) (until : obeys.Until) → ((rule : Rule) → Holds R until rule) ↔ Obeys R until
 
 pub record RuleLaws : Type 0 where
   pub unbroken : HoldsUnbroken
+  pub more : UnbrokenMore
   pub each : ObeysEach
 
 -- ---- what is found to be the same is equal

@@ -32,9 +32,10 @@ entry r R thread = if thread == 0 then with_zero (main_of r) else spawned_by_eve
 
 -- a thread may begin with a function and an argument where they are its entry, and, in a legal store, only there
 pub record FindsEntries (r : Resolution) : Type 0 where
-  pub found : (R : List SourceEvent) → LegalStore r R → (thread f : ℕ) (v : ℤ) (before after : List SourceEvent) → R ≡ before ++ after
-      → IsFirst r thread f v ⊎ IsSpawned before thread f v → entry r R thread ≡ Some (f, v)
-  pub right : (R : List SourceEvent) (thread f : ℕ) (v : ℤ) → entry r R thread ≡ Some (f, v) → IsFirst r thread f v ⊎ IsSpawned R thread f v
+  pub found : (R : List SourceEvent) → LegalStore r R → (thread f : ℕ) (v : ℤ) (before after : List SourceEvent)
+      → R ≡ before ++ after → IsFirst r thread f v ⊎ IsSpawned before thread f v → entry r R thread ≡ Some (f, v)
+  pub right : (R : List SourceEvent) (thread f : ℕ) (v : ℤ) → entry r R thread ≡ Some (f, v)
+      → IsFirst r thread f v ⊎ IsSpawned R thread f v
 
 abbrev pub EntryLaws : Type 0
 EntryLaws = (r : Resolution) → IsResolved r → FindsEntries r

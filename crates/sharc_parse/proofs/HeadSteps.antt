@@ -1,6 +1,5 @@
 -- The machine's steps over the head of a `for`, and over what a `return` gives.
 use Rattle.sharc_parse.proofs.{Imports.{◌≡◌, ℕ, ◌+◌, ◌≤◌, ◌<◌, List, [], ◌∷◌, Option, Some, None, refl, ap, ◌∙◌, arith, true, false, lt-leb, Semicolon, OpenParenthesis, CloseParenthesis, Token, Expr, Simple, ForFirst, view_expr, view_option, view_simple, view_first, Word, mark, Phrase, Doing, Line, Outer, inside, as_first, as_step, Cont, part, subject, Want, Have, Start, ForOpen, ForTest, ForStep, an_open, At, leave, loop, floor, grip, StuckAt, next_within, reads_within, around_it, depth, crowded, site_in, line_size, option_size, first_at, option_at, step_at, NotAt, NoMalloc, from, Past, doing_state, EndsDoing, doing_within, line_within, line_of, ReadsLine, IsLinePlaced, Tail, by_return, by_test, tail_place, before_tail, behind_tail, ReadsTail, IsTailPlaced, step_of, ReadsStep, IsStepPlaced, ReadsHead, IsHeadPlaced, ReadingFault, Memory, option_of, Ok, Err}, Steps.{passes, fixed_goes}, RightSteps.ends_place, SimpleSteps.doing_ends}
-use Rattle.sharc_tree.specs.Tree as tree
 
 -- an expression that may be left out
 

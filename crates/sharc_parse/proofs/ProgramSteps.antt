@@ -1,8 +1,8 @@
 -- The machine's steps over the items of a program, and its first fault.
-use Rattle.sharc_parse.proofs.{Imports.{◌≡◌, ℕ, ◌+◌, ◌-◌, ◌<◌, ◌≤◌, List, [], ◌∷◌, ◌++◌, length, drop, refl, sym, ap, ◌∙◌, arith, subst, length-drop, drop_all, length-map, Result, Ok, Err, view_item, view_items, view_program, Token, Tokens, Site, Item, Word, Part, IsProgram, program_words, on_top, naming, TypeWant, Top, At, with_part, first_state, LowProgram, ReadWithin, StuckAt, Over, reads_within, words_of, site_in, part_size, item_at, items_at, Reads, IsFault, wrong_code, ReadingFault, Memory as NoMemory, Wrong, ParseFault, FaultOf, from, part_of, ReadsItem, IsItemPlaced, TokenRefusal, parts_of, code_of, ReadsItems, Refuses, Completes, Parses, GrammarFault}, Marked.parts_size}
+use Rattle.sharc_parse.proofs.{Imports.{◌≡◌, ℕ, ◌+◌, ◌-◌, ◌<◌, ◌≤◌, List, [], ◌∷◌, ◌++◌, length, drop, refl, sym, ap, ◌∙◌, arith, subst, length-drop, drop_all, length-map, Result, Ok, Err, view_item, view_items, view_program, Token, Tokens, Site, Item, Word, Part, IsProgram, program_words, on_top, naming, TypeWant, Top, At, with_part, first_state, LowProgram, ReadWithin, StuckAt, Over, reads_within, words_of, site_in, part_size, item_at, items_at, Reads, IsFault, wrong_code, ReadingFault, Memory as NoMemory, ParseFault, FaultOf, from, part_of, ReadsItem, IsItemPlaced, TokenRefusal, parts_of, code_of, ReadsItems, Refuses, Completes, Parses, GrammarFault}, Marked.parts_size}
 use Rattle.sharc_tree.specs.declared.tree.item.Program.{Program}
 use Rattle.sharc_tree.specs.Tree as tree
-use Rattle.sharc_parse.specs.{declared.token.ReadingFault.TheVariants.Deep, declared.program.ParseFault.TheVariants.Memory}
+use Rattle.sharc_parse.specs.{declared.program.ParseFault.TheVariants.Memory}
 
 -- at a word, a step from the top is one of a type there
 top_goes : (all : List Part) (ts : List Word) → 0 < length ts → reads_within ts (At [] (Top all)) ≡ reads_within ts (At [] (TypeWant (naming (on_top all))))

@@ -5,10 +5,10 @@ use Rattle.std.proofs.lemmas.Bool.{le-leb, lt-leb}
 use Rattle.sharc_tree.specs.declared.tree.expression.BinaryOperator.{BinaryOperator}
 use Rattle.sharc_tree.specs.declared.tree.expression.UnaryOperator.{UnaryOperator}
 use Rattle.sharc_tree.specs.declared.tree.expression.BinaryOperator.TheVariants as op
-use Rattle.sharc_parse.specs.Grammar.{Word, mark, parenthesis, of_spawn, of_value, of_place, of_cast, Phrase, unary}
+use Rattle.sharc_parse.specs.Grammar.{Word, mark, parenthesis, Phrase, unary}
 use Rattle.sharc_parse.specs.Grammar.{binary, operator_mark, strength}
-use Rattle.sharc_parse.specs.Machine.{condition, returning, testing, subject, valued, counting, Cont, part, beneath}
-use Rattle.sharc_parse.specs.Machine.{right_of, fronted, indexing, arguments, Role, Calling, Indexing, Accessing}
+use Rattle.sharc_parse.specs.Machine.{condition, Cont, part, beneath}
+use Rattle.sharc_parse.specs.Machine.{right_of, fronted, Role}
 use Rattle.sharc_parse.specs.Machine.{Operating, Ending, role, grip_of, floor, settle, end_at, shift, have}
 
 -- no operator binds as tightly as one before its operand

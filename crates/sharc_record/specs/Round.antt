@@ -7,7 +7,7 @@ use Rattle.sharc_code.specs.Whole.{one_thread, bounds, place_after}
 use Rattle.sharc_record.specs.{Shared.{SharedView, SeatView}, declared.journal.TheConstants.QUANTUM}
 use Rattle.sharc_record.specs.declared.round.Rounds.{Rounds}
 use Rattle.sharc_threads.specs.Seats.{AreSeats}
-use Rattle.sharc_rounds.specs.{declared.hand.Hand.Hand, declared.worker.Worker.Worker}
+use Rattle.sharc_rounds.specs.{declared.hand.Hand.Hand, declared.lent.Lent.Lent, declared.worker.Worker.Worker}
 use Rattle.sharc_rounds.specs.Round.{Seat, MadeQuantumAt, MayTurnAt, MadeRound}
 
 -- ---- one thread
@@ -27,6 +27,13 @@ pub record HasRun (code : Code) (s : Shape) (limit : ℕ) (old new : Hand SeatVi
   pub events_are : new.port.events ≡ old.port.events ++ events
   pub few : length events ≤ QUANTUM
 
+-- by what is lent to it
+abbrev pub MayBeRunBy : {G : Type 0} → Lent SharedView G → Hand SeatView → Type 0
+MayBeRunBy lent hand = MayRun lent.code.now lent.shape.now lent.limit lent.shared.now hand
+
+abbrev pub WasRunBy : {B G : Type 0} → Lent B G → Hand SeatView → Hand SeatView → Type 0
+WasRunBy lent old new = HasRun lent.code.now lent.shape.now lent.limit old new
+
 -- ---- workers
 -- so it is of the hand at a place, if there is one
 abbrev pub MayRunAt : Code → Shape → ℕ → SharedView → Option (Hand SeatView) → Type 0
@@ -45,6 +52,12 @@ MayAllRun code s limit shared worker = (n : ℕ) → MayRunAt code s limit share
 abbrev pub HaveAllRun : Code → Shape → ℕ → Worker SeatView → Worker SeatView → Type 0
 HaveAllRun code s limit old new = (n : ℕ)
     → HasRunAt code s limit (slice_index_or old.hands.items n None) (slice_index_or new.hands.items n None)
+
+abbrev pub MayAllBeRunBy : {G : Type 0} → Lent SharedView G → Worker SeatView → Type 0
+MayAllBeRunBy lent worker = MayAllRun lent.code.now lent.shape.now lent.limit lent.shared.now worker
+
+abbrev pub WereAllRunBy : {B G : Type 0} → Lent B G → Worker SeatView → Worker SeatView → Type 0
+WereAllRunBy lent old new = HaveAllRun lent.code.now lent.shape.now lent.limit old new
 
 -- ---- a round
 -- it was made, and its events were appended to these

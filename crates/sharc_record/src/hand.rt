@@ -1,18 +1,17 @@
 //! A thread in a round.
 
 ghost use Rattle.std.specs.Prelude.{◌≡◌, length, Some};
-ghost use Rattle.sharc_rounds.specs.Round.{AreLent, MayTurn};
+ghost use Rattle.sharc_rounds.specs.Round.{AreLentBy, MayTurn};
 ghost use Rattle.sharc_record.specs.declared.journal.TheConstants.{QUANTUM as quantum};
-ghost use Rattle.sharc_record.specs.Round.{HasRun, MayRun};
+ghost use Rattle.sharc_record.specs.Round.{WasRunBy, MayBeRunBy};
 
 use crate::journal::QUANTUM;
 use crate::journaled::journal_laws;
 use crate::port::JournalPort;
 use crate::seat::JournalSeat;
 use crate::shared::SharedJournal;
-use sharc_code::{Code, Shape};
-use sharc_cpu::{RowPlan, Thread, run_trying};
-use sharc_rounds::{Gate, GatedPort, Hand, most_events, quantum_laws};
+use sharc_cpu::{Thread, run_trying};
+use sharc_rounds::{Gate, GatedPort, Hand, Lent, most_events, quantum_laws};
 use sharc_threads::is_on;
 use std::sync::Wait;
 
@@ -21,19 +20,14 @@ fn run_thread<R: Wait, G: Gate>(
     rt: &R,
     mut thread: Thread,
     port: JournalSeat,
-    code: &Code,
-    plan: &RowPlan,
-    shape: &Shape,
-    shared: &SharedJournal,
-    gate: &G,
+    lent: &Lent<SharedJournal, G>,
     worker: u32,
-    limit: u64,
 ) -> Hand<JournalSeat>
-    requires lent { AreLent code.now plan.now shape.now (length shared.now.opened.words) }
-    requires shared { port.id ≡ shared.now.id }
-    requires count { port.count ≡ length shared.now.opened.words }
-    requires may { MayTurn code.now shape.now limit quantum thread port.number }
-    ensures { HasRun code.now shape.now limit record { seat = Some thread; port = port } result }
+    requires lent { AreLentBy lent.now (length lent.now.shared.now.opened.words) }
+    requires shared { port.id ≡ lent.now.shared.now.id }
+    requires count { port.count ≡ length lent.now.shared.now.opened.words }
+    requires may { MayTurn lent.now.code.now lent.now.shape.now lent.now.limit quantum thread port.number }
+    ensures { WasRunBy lent.now record { seat = Some thread; port = port } result }
 {
     journal_laws();
     quantum_laws();
@@ -43,17 +37,17 @@ fn run_thread<R: Wait, G: Gate>(
             port,
         };
     }
-    let most = most_events(thread.made(), limit);
+    let most = most_events(thread.made(), lent.limit);
     let mut port = GatedPort {
-        port: JournalPort::of(rt, shared, port),
-        gate,
+        port: JournalPort::of(rt, lent.shared, port),
+        gate: lent.gate,
         worker,
         thread: thread.number(),
     };
     run_trying(
-        code,
-        Some(plan),
-        shape,
+        lent.code,
+        Some(lent.plan),
+        lent.shape,
         &mut thread,
         &mut port,
         QUANTUM,
@@ -71,23 +65,16 @@ fn run_thread<R: Wait, G: Gate>(
 pub(crate) fn run_hand<R: Wait, G: Gate>(
     rt: &R,
     hand: Hand<JournalSeat>,
-    code: &Code,
-    plan: &RowPlan,
-    shape: &Shape,
-    shared: &SharedJournal,
-    gate: &G,
+    lent: &Lent<SharedJournal, G>,
     worker: u32,
-    limit: u64,
 ) -> Hand<JournalSeat>
-    requires lent { AreLent code.now plan.now shape.now (length shared.now.opened.words) }
-    requires may { MayRun code.now shape.now limit shared.now hand }
-    ensures { HasRun code.now shape.now limit hand result }
+    requires lent { AreLentBy lent.now (length lent.now.shared.now.opened.words) }
+    requires may { MayBeRunBy lent.now hand }
+    ensures { WasRunBy lent.now hand result }
 {
     let Hand { seat, port } = hand;
     match seat {
         None => Hand { seat: None, port },
-        Some(thread) => run_thread(
-            rt, thread, port, code, plan, shape, shared, gate, worker, limit,
-        ),
+        Some(thread) => run_thread(rt, thread, port, lent, worker),
     }
 }

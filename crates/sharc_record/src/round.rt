@@ -11,7 +11,7 @@ use crate::shared::SharedJournal;
 use crate::worker::run_all;
 use sharc_code::{Code, Shape};
 use sharc_cpu::RowPlan;
-use sharc_rounds::{Gate, deal, gather, quantum_laws, reserve, workers_needed};
+use sharc_rounds::{Gate, Lent, deal, gather, quantum_laws, reserve, workers_needed};
 use sharc_threads::ThreadTable;
 use sharc_word::{MemPort, THREADS, WordEvent};
 use std::alloc::{AllocError, Global};
@@ -65,7 +65,15 @@ impl Rounds {
         let (shared, ports) = SharedJournal::open(alloc, journal, THREADS)?;
         let count = workers_needed(seats.as_slice(), workers);
         let mut workers = deal(alloc, count, seats, ports)?;
-        run_all(rt, code, plan, shape, &shared, gate, limit, &mut workers);
+        let lent = Lent {
+            code,
+            plan,
+            shape,
+            shared: &shared,
+            gate,
+            limit,
+        };
+        run_all(rt, &lent, &mut workers);
         let (seats, ports) = gather(alloc, workers)?;
         let Journal {
             words: port,

@@ -11,7 +11,7 @@ use Rattle.sharc_code.specs.declared.state.Wait.TheVariants as waits
 use Rattle.sharc_cpu.specs.{Thread.{ThreadView, IsThread}, Rows.IsPlan, declared.rows.RowPlan.RowPlan}
 use Rattle.sharc_bus.specs.Bus.{BusView, SeatView, IsOf, OneHistory}
 use Rattle.sharc_threads.specs.Seats.{AreSeats}
-use Rattle.sharc_rounds.specs.{declared.hand.Hand.Hand}
+use Rattle.sharc_rounds.specs.{declared.hand.Hand.Hand, declared.lent.Lent.Lent}
 use Rattle.sharc_rounds.specs.{declared.worker.Worker.Worker, declared.round.Rounds.Rounds, declared.words.Words.Words}
 
 -- a place of the table of threads: a thread that was started, or none
@@ -24,6 +24,9 @@ pub record AreLent (code : Code) (plan : RowPlan) (s : Shape) (words : ℕ) : Ty
   pub plan_is : IsPlan code plan
   pub fits : Fits code s
   pub words_are : words ≡ words_of s
+
+abbrev pub AreLentBy : {B G : Type 0} → Lent B G → ℕ → Type 0
+AreLentBy lent words = AreLent lent.code.now lent.plan.now lent.shape.now words
 
 -- ---- one thread
 -- it went on by a path with these word events. One that is gone or stopped made no turn; another that was below the
@@ -84,6 +87,13 @@ pub record HasRun (code : Code) (s : Shape) (limit : ℕ) (old new : Hand SeatVi
   pub number : new.port.number ≡ old.port.number
   pub events_are : new.port.events ≡ old.port.events ++ events
 
+-- by what is lent to it
+abbrev pub MayRunBy : {G : Type 0} → Lent BusView G → ℕ → Hand SeatView → Type 0
+MayRunBy lent turns hand = MayRun lent.code.now lent.shape.now lent.limit lent.shared.now turns hand
+
+abbrev pub HasRunBy : {B G : Type 0} → Lent B G → Hand SeatView → Hand SeatView → Type 0
+HasRunBy lent old new = HasRun lent.code.now lent.shape.now lent.limit old new
+
 -- where a thread had room for so many turns and for more, it has room for these
 abbrev pub KeepsRoom : ℕ → Seat → Seat → Type 0
 KeepsRoom turns (Some old) (Some new) = (more : ℕ) → HasRoomFor (turns + more) old → HasRoomFor more new
@@ -125,6 +135,12 @@ MayAllRun code s limit bus turns worker = (n : ℕ)
 abbrev pub HaveAllRun : Code → Shape → ℕ → Worker SeatView → Worker SeatView → Type 0
 HaveAllRun code s limit old new = (n : ℕ)
     → HasRunAt code s limit (slice_index_or old.hands.items n None) (slice_index_or new.hands.items n None)
+
+abbrev pub MayAllRunBy : {G : Type 0} → Lent BusView G → ℕ → Worker SeatView → Type 0
+MayAllRunBy lent turns worker = MayAllRun lent.code.now lent.shape.now lent.limit lent.shared.now turns worker
+
+abbrev pub HaveAllRunBy : {B G : Type 0} → Lent B G → Worker SeatView → Worker SeatView → Type 0
+HaveAllRunBy lent old new = HaveAllRun lent.code.now lent.shape.now lent.limit old new
 
 abbrev pub KeepAllRoom : ℕ → Worker SeatView → Worker SeatView → Type 0
 KeepAllRoom turns old new = (n : ℕ)

@@ -3,14 +3,14 @@
 ghost use Rattle.std.specs.Prelude.{◌≡◌, ◌<◌, ◌≤◌, ◌↔◌, true, Some, IsTrue, length};
 ghost use Rattle.sharc_word.specs.declared.step.TheConstants.{THREADS as threads};
 ghost use Rattle.sharc_code.specs.Path.{may_go};
-ghost use Rattle.sharc_rounds.specs.Round.{AreLent, MayTurn, HasRun, MayRun, KeepsRoom, IsInSection, is_on};
+ghost use Rattle.sharc_rounds.specs.Round.{AreLentBy, MayTurn, HasRunBy, MayRunBy, KeepsRoom, IsInSection, is_on};
 
 use crate::gate::{Gate, GatedPort};
+use crate::lent::Lent;
 use crate::share::most_events;
 use crate::stint::Stint;
 use sharc_bus::{Bus, BusPort, BusSeat, name_laws};
-use sharc_code::{Code, Shape};
-use sharc_cpu::{RowPlan, Thread, run_trying};
+use sharc_cpu::{Thread, run_trying};
 use sharc_threads::is_on;
 use sharc_word::place_laws;
 
@@ -25,36 +25,31 @@ pub struct Hand<S> {
 fn run_thread<G: Gate>(
     mut thread: Thread,
     port: BusSeat,
-    code: &Code,
-    plan: &RowPlan,
-    shape: &Shape,
-    bus: &Bus,
-    gate: &G,
+    lent: &Lent<Bus, G>,
     worker: u32,
-    limit: u64,
     stint: Stint,
 ) -> Hand<BusSeat>
-    requires lent { AreLent code.now plan.now shape.now (length bus.now.opening) }
-    requires bus { port.bus ≡ bus.now.id }
+    requires lent { AreLentBy lent.now (length lent.now.shared.now.opening) }
+    requires bus { port.bus ≡ lent.now.shared.now.id }
     requires some { 0 < stint.turns }
     requires on { may_go thread.machine.at.state ≡ true }
-    requires may { MayTurn code.now shape.now limit stint.turns thread port.number }
-    ensures ran { HasRun code.now shape.now limit record { seat = Some thread; port = port } result }
+    requires may { MayTurn lent.now.code.now lent.now.shape.now lent.now.limit stint.turns thread port.number }
+    ensures ran { HasRunBy lent.now record { seat = Some thread; port = port } result }
     ensures room { KeepsRoom stint.turns (Some thread) result.seat }
 {
     name_laws();
     place_laws();
-    let most = most_events(thread.made(), limit);
+    let most = most_events(thread.made(), lent.limit);
     let mut port = GatedPort {
-        port: BusPort::of(bus, port),
-        gate,
+        port: BusPort::of(lent.shared, port),
+        gate: lent.gate,
         worker,
         thread: thread.number(),
     };
     run_trying(
-        code,
-        Some(plan),
-        shape,
+        lent.code,
+        Some(lent.plan),
+        lent.shape,
         &mut thread,
         &mut port,
         stint.turns,
@@ -80,30 +75,18 @@ fn is_in_section(seat: &Option<Thread>) -> bool
 
 impl Hand<BusSeat> {
     // One go of the thread, which is neither gone nor stopped.
-    fn go<G: Gate>(
-        self,
-        code: &Code,
-        plan: &RowPlan,
-        shape: &Shape,
-        bus: &Bus,
-        gate: &G,
-        worker: u32,
-        limit: u64,
-        stint: Stint,
-    ) -> Hand<BusSeat>
-        requires lent { AreLent code.now plan.now shape.now (length bus.now.opening) }
+    fn go<G: Gate>(self, lent: &Lent<Bus, G>, worker: u32, stint: Stint) -> Hand<BusSeat>
+        requires lent { AreLentBy lent.now (length lent.now.shared.now.opening) }
         requires some { 0 < stint.turns }
         requires on { is_on self.seat ≡ true }
-        requires may { MayRun code.now shape.now limit bus.now stint.turns self }
-        ensures ran { HasRun code.now shape.now limit self result }
+        requires may { MayRunBy lent.now stint.turns self }
+        ensures ran { HasRunBy lent.now self result }
         ensures room { KeepsRoom stint.turns self.seat result.seat }
     {
         let Hand { seat, port } = self;
         match seat {
             None => Hand { seat: None, port },
-            Some(thread) => run_thread(
-                thread, port, code, plan, shape, bus, gate, worker, limit, stint,
-            ),
+            Some(thread) => run_thread(thread, port, lent, worker, stint),
         }
     }
 
@@ -111,28 +94,23 @@ impl Hand<BusSeat> {
     /// first go the thread goes on while it is in a critical section, out of the turns that were kept back.
     pub(crate) fn run<G: Gate>(
         self,
-        code: &Code,
-        plan: &RowPlan,
-        shape: &Shape,
-        bus: &Bus,
-        gate: &G,
+        lent: &Lent<Bus, G>,
         worker: u32,
-        limit: u64,
         stint: Stint,
     ) -> Hand<BusSeat>
-        requires lent { AreLent code.now plan.now shape.now (length bus.now.opening) }
+        requires lent { AreLentBy lent.now (length lent.now.shared.now.opening) }
         requires some { 0 < stint.turns }
         requires on { is_on self.seat ≡ true }
-        requires may { MayRun code.now shape.now limit bus.now stint.turns self }
-        ensures ran { HasRun code.now shape.now limit self result }
+        requires may { MayRunBy lent.now stint.turns self }
+        ensures ran { HasRunBy lent.now self result }
         ensures room { KeepsRoom stint.turns self.seat result.seat }
     {
         let first = stint.first();
         let mut left = stint.turns - first.turns;
-        let mut hand = self.go(code, plan, shape, bus, gate, worker, limit, first);
+        let mut hand = self.go(lent, worker, first);
         while left > 0 && is_in_section(&hand.seat) {
             let further = stint.further(left);
-            hand = hand.go(code, plan, shape, bus, gate, worker, limit, further);
+            hand = hand.go(lent, worker, further);
             left -= further.turns;
         }
         hand

@@ -2,16 +2,15 @@
 
 ghost use Rattle.std.specs.Prelude.{◌≡◌, ◌<◌, length};
 ghost use Rattle.sharc_rounds.specs.{declared.stint.TheConstants.QUANTUM as quantum, Pace.{next_part, made_at}};
-ghost use Rattle.sharc_rounds.specs.{Pace.events_at_hands, Round.{AreLent, MayAllRun, HaveAllRun}};
+ghost use Rattle.sharc_rounds.specs.{Pace.events_at_hands, Round.{AreLentBy, MayAllRunBy, HaveAllRunBy}};
 
 use crate::gate::Gate;
 use crate::hand::Hand;
+use crate::lent::Lent;
 use crate::pace::made_by;
 use crate::stint::{QUANTUM, Stint};
 use crate::worker::Worker;
 use sharc_bus::{Bus, BusSeat};
-use sharc_code::{Code, Shape};
-use sharc_cpu::RowPlan;
 
 // The turns of the first part of a quantum, and the least of each other one.
 pub(crate) const PART: u32 = 1_000;
@@ -48,36 +47,18 @@ impl Worker<BusSeat> {
 
     /// One quantum of each thread by parts: one of each thread, then the next of each, and so on, until the quanta are
     /// made or no thread makes an event. The gate is told that the threads are at so many workers.
-    pub(crate) fn run_by_parts<G: Gate>(
-        &mut self,
-        code: &Code,
-        plan: &RowPlan,
-        shape: &Shape,
-        bus: &Bus,
-        gate: &G,
-        workers: u32,
-        limit: u64,
-    )
+    pub(crate) fn run_by_parts<G: Gate>(&mut self, lent: &Lent<Bus, G>, workers: u32)
         requires workers { 0 < workers }
-        requires lent { AreLent code.now plan.now shape.now (length bus.now.opening) }
-        requires may { MayAllRun code.now shape.now limit bus.now quantum self.old }
-        ensures { HaveAllRun code.now shape.now limit self.old self.new }
+        requires lent { AreLentBy lent.now (length lent.now.shared.now.opening) }
+        requires may { MayAllRunBy lent.now quantum self.old }
+        ensures { HaveAllRunBy lent.now self.old self.new }
     {
         let mut left = QUANTUM;
         let mut part = PART;
         let mut before = self.events();
         'parts: loop {
             let turns = part.min(left);
-            self.run(
-                code,
-                plan,
-                shape,
-                bus,
-                gate,
-                workers,
-                limit,
-                Stint::alone(turns),
-            );
+            self.run(lent, workers, Stint::alone(turns));
             left -= turns;
             let events = self.events();
             if left == 0 || events == before {

@@ -6,9 +6,11 @@ ghost use Rattle.sharc_code.specs.Layout.{Fits, words_of};
 ghost use Rattle.sharc_cpu.specs.Rows.{IsPlan};
 ghost use Rattle.sharc_bus.specs.Bus.{SeatView};
 ghost use Rattle.sharc_rounds.specs.{declared.stint.TheConstants.QUANTUM as quantum, declared.worker.Worker.Worker};
-ghost use Rattle.sharc_rounds.specs.Round.{AreLent, MayBegin, MayAllRun, HaveAllRun, MadeRound, AreWords, KeptBus};
+ghost use Rattle.sharc_rounds.specs.Round.{AreLentBy, MayBegin, MayAllRunBy, HaveAllRunBy, MadeRound, AreWords};
+ghost use Rattle.sharc_rounds.specs.Round.{KeptBus};
 
 use crate::gate::Gate;
+use crate::lent::Lent;
 use crate::pace::Makers;
 use crate::room::reserve;
 use crate::stint::QUANTUM;
@@ -31,34 +33,27 @@ pub(crate) struct Rounds {
 // Each worker gives each of its threads a quantum.
 fn work<R: Threads + Sync, G: Gate + Sync>(
     rt: &R,
-    code: &Code,
-    plan: &RowPlan,
-    shape: &Shape,
-    bus: &Bus,
-    gate: &G,
+    lent: &Lent<Bus, G>,
     workers: u32,
-    limit: u64,
     crew: &mut Vec<Worker<BusSeat>>,
     makers: Makers,
 )
-    requires lent { AreLent code.now plan.now shape.now (length bus.now.opening) }
+    requires lent { AreLentBy lent.now (length lent.now.shared.now.opening) }
     requires workers { 0 < workers }
     requires some { 0 < length crew.old.items }
     requires alone { makers ≡ Makers.CallerByParts → length crew.old.items ≡ 1 }
     requires may { (w : ℕ) (d : Worker SeatView) → w < length crew.old.items
-        → MayAllRun code.now shape.now limit bus.now quantum (slice_index_or crew.old.items w d) }
+        → MayAllRunBy lent.now quantum (slice_index_or crew.old.items w d) }
     ensures count { length crew.new.items ≡ length crew.old.items }
-    ensures each { (w : ℕ) (d : Worker SeatView) → w < length crew.old.items → HaveAllRun code.now shape.now limit
-        (slice_index_or crew.old.items w d) (slice_index_or crew.new.items w d) }
+    ensures each { (w : ℕ) (d : Worker SeatView) → w < length crew.old.items
+        → HaveAllRunBy lent.now (slice_index_or crew.old.items w d) (slice_index_or crew.new.items w d) }
 {
     match makers {
-        Makers::CallerByParts => crew[0].run_by_parts(code, plan, shape, bus, gate, workers, limit),
+        Makers::CallerByParts => crew[0].run_by_parts(lent, workers),
         Makers::Workers | Makers::Caller => {
             let threads = makers.threads(crew.len());
             let stint = makers.stint();
-            run_all(
-                rt, code, plan, shape, bus, gate, workers, limit, crew, threads, stint,
-            );
+            run_all(rt, lent, workers, crew, threads, stint);
         }
     }
 }
@@ -96,9 +91,15 @@ impl Rounds {
         let (ports, round) = bus.begin(alloc, rest)?;
         let count = makers.count(workers_needed(seats.as_slice(), workers));
         let mut crew = deal(alloc, count, seats, ports)?;
-        work(
-            rt, code, plan, shape, &bus, gate, workers, limit, &mut crew, makers,
-        );
+        let lent = Lent {
+            code,
+            plan,
+            shape,
+            shared: &bus,
+            gate,
+            limit,
+        };
+        work(rt, &lent, workers, &mut crew, makers);
         let (seats, ports) = gather(alloc, crew)?;
         let rest = bus.end(round, ports);
         Ok(Rounds {

@@ -4,16 +4,16 @@ ghost use Rattle.std.specs.Prelude.{◌≡◌, ◌<◌, ◌≤◌, ◌%◌, ◌^
 ghost use Rattle.std.specs.Prelude.{slice_index_or};
 ghost use Rattle.sharc_word.specs.declared.step.TheConstants.{THREADS as threads};
 ghost use Rattle.sharc_bus.specs.Bus.{SeatView};
-ghost use Rattle.sharc_rounds.specs.{declared.hand.Hand.Hand, declared.worker.Worker.Worker, Round.{AreLent, MayRunAt}};
-ghost use Rattle.sharc_rounds.specs.Round.{HasRunAt, KeepsRoomAt, MayAllRun, HaveAllRun, KeepAllRoom, Seat, goes_on};
-ghost use Rattle.sharc_rounds.specs.{Round.hand_at, Shares.needed};
+ghost use Rattle.sharc_rounds.specs.{declared.hand.Hand.Hand, declared.worker.Worker.Worker, Shares.needed};
+ghost use Rattle.sharc_rounds.specs.Round.{AreLentBy, MayRunAt, HasRunAt, KeepsRoomAt, MayAllRunBy, HaveAllRunBy};
+ghost use Rattle.sharc_rounds.specs.Round.{KeepAllRoom, Seat, goes_on, hand_at};
 
 use crate::gate::Gate;
 use crate::hand::Hand;
+use crate::lent::Lent;
 use crate::stint::Stint;
 use sharc_bus::{Bus, BusSeat};
-use sharc_code::{Code, Shape};
-use sharc_cpu::{RowPlan, Thread};
+use sharc_cpu::Thread;
 use sharc_threads::is_on;
 use sharc_word::THREADS;
 use std::alloc::{AllocError, Global};
@@ -61,21 +61,12 @@ fn goes_on(hand: &Option<Hand<BusSeat>>) -> bool
 }
 
 // One stint of the thread at a place, if one is there that is neither gone nor stopped.
-fn run_at<G: Gate>(
-    hand: &mut Option<Hand<BusSeat>>,
-    code: &Code,
-    plan: &RowPlan,
-    shape: &Shape,
-    bus: &Bus,
-    gate: &G,
-    number: u32,
-    limit: u64,
-    stint: Stint,
-)
-    requires lent { AreLent code.now plan.now shape.now (length bus.now.opening) }
+fn run_at<G: Gate>(hand: &mut Option<Hand<BusSeat>>, lent: &Lent<Bus, G>, number: u32, stint: Stint)
+    requires lent { AreLentBy lent.now (length lent.now.shared.now.opening) }
     requires some { 0 < stint.turns }
-    requires may { MayRunAt code.now shape.now limit bus.now stint.turns hand.old }
-    ensures ran { HasRunAt code.now shape.now limit hand.old hand.new }
+    requires may { MayRunAt lent.now.code.now lent.now.shape.now lent.now.limit lent.now.shared.now stint.turns
+        hand.old }
+    ensures ran { HasRunAt lent.now.code.now lent.now.shape.now lent.now.limit hand.old hand.new }
     ensures room { KeepsRoomAt stint.turns hand.old hand.new }
 {
     if !goes_on(hand) {
@@ -83,7 +74,7 @@ fn run_at<G: Gate>(
     }
     *hand = match hand.take() {
         None => None,
-        Some(hand) => Some(hand.run(code, plan, shape, bus, gate, number, limit, stint)),
+        Some(hand) => Some(hand.run(lent, number, stint)),
     };
 }
 
@@ -103,37 +94,17 @@ impl<S: Drop> Worker<S> {
 
 impl Worker<BusSeat> {
     /// One stint of each thread, in rising order of their numbers.
-    pub(crate) fn run<G: Gate>(
-        &mut self,
-        code: &Code,
-        plan: &RowPlan,
-        shape: &Shape,
-        bus: &Bus,
-        gate: &G,
-        workers: u32,
-        limit: u64,
-        stint: Stint,
-    )
+    pub(crate) fn run<G: Gate>(&mut self, lent: &Lent<Bus, G>, workers: u32, stint: Stint)
         requires workers { 0 < workers }
-        requires lent { AreLent code.now plan.now shape.now (length bus.now.opening) }
+        requires lent { AreLentBy lent.now (length lent.now.shared.now.opening) }
         requires some { 0 < stint.turns }
-        requires may { MayAllRun code.now shape.now limit bus.now stint.turns self.old }
-        ensures ran { HaveAllRun code.now shape.now limit self.old self.new }
+        requires may { MayAllRunBy lent.now stint.turns self.old }
+        ensures ran { HaveAllRunBy lent.now self.old self.new }
         ensures room { KeepAllRoom stint.turns self.old self.new }
     {
         for n in 0..self.hands.len() {
             let worker = (n % workers as usize) as u32;
-            run_at(
-                &mut self.hands[n],
-                code,
-                plan,
-                shape,
-                bus,
-                gate,
-                worker,
-                limit,
-                stint,
-            );
+            run_at(&mut self.hands[n], lent, worker, stint);
         }
     }
 }
@@ -185,38 +156,33 @@ pub fn deal<S: Drop>(
 /// started is done by another.
 pub(crate) fn run_all<R: Threads + Sync, G: Gate + Sync>(
     rt: &R,
-    code: &Code,
-    plan: &RowPlan,
-    shape: &Shape,
-    bus: &Bus,
-    gate: &G,
+    lent: &Lent<Bus, G>,
     workers: u32,
-    limit: u64,
     crew: &mut Vec<Worker<BusSeat>>,
     threads: usize,
     stint: Stint,
 )
-    requires lent { AreLent code.now plan.now shape.now (length bus.now.opening) }
+    requires lent { AreLentBy lent.now (length lent.now.shared.now.opening) }
     requires workers { 0 < workers }
     requires threads { 0 < threads }
     requires some { 0 < stint.turns }
     requires may { (w : ℕ) (d : Worker SeatView) → w < length crew.old.items
-        → MayAllRun code.now shape.now limit bus.now stint.turns (slice_index_or crew.old.items w d) }
+        → MayAllRunBy lent.now stint.turns (slice_index_or crew.old.items w d) }
     ensures count { length crew.new.items ≡ length crew.old.items }
-    ensures each { (w : ℕ) (d : Worker SeatView) → w < length crew.old.items → HaveAllRun code.now shape.now limit
-        (slice_index_or crew.old.items w d) (slice_index_or crew.new.items w d) }
+    ensures each { (w : ℕ) (d : Worker SeatView) → w < length crew.old.items
+        → HaveAllRunBy lent.now (slice_index_or crew.old.items w d) (slice_index_or crew.new.items w d) }
 {
     thread::for_each_mut(
         rt,
         crew.as_mut_slice(),
         threads,
         &|_w: usize, worker: &mut Worker<BusSeat>|
-            requires lent { AreLent code.now plan.now shape.now (length bus.now.opening) }
+            requires lent { AreLentBy lent.now (length lent.now.shared.now.opening) }
             requires workers { 0 < workers }
             requires some { 0 < stint.turns }
-            requires may { MayAllRun code.now shape.now limit bus.now stint.turns worker.old }
-            ensures { HaveAllRun code.entry.now shape.entry.now limit worker.old worker.new }
-        { worker.run(code, plan, shape, bus, gate, workers, limit, stint) },
+            requires may { MayAllRunBy lent.now stint.turns worker.old }
+            ensures { HaveAllRunBy lent.entry.now worker.old worker.new }
+        { worker.run(lent, workers, stint) },
     );
 }
 

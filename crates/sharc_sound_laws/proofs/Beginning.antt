@@ -146,7 +146,7 @@ pub begins_with : MeetsGlobals → MadeCodeBegins
 begins_with meets m resolved unsigned flat flattens code is g place inside =
     let gs = globals_in m.typed.program.items in
     let initial : code.initial.items ≡ all_first_words m.typed gs = ap (λ v. v.items) (is.generated.initial ∙ is.made.initial) ∙ flattens.initial in
-    let globals : code.globals.items ≡ globals_from m.typed 1 gs = ap (λ v. v.items) (is.generated.globals ∙ is.made.globals) ∙ flattens.lays.globals in
+    let globals : code.globals.items ≡ globals_from m.typed 1 gs = ap (λ v. v.items) (is.generated.globals ∙ is.made.globals) ∙ flattens.globals in
     let u : AllUnsigned gs = λ n d e. unsigned_form d.form (λ span minus k q. unsigned n d e span minus k q) in
     ap (λ (ws : List ℕ). int_of (slice_index ws (place - 2))) initial
     ∙ all_begin m.typed 1 gs u (meets m.typed.program resolved.typed) g place (subst (λ (gs : List GlobalCells). IsInGlobal gs g place) globals inside)

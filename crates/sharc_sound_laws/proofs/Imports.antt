@@ -17,8 +17,8 @@ pub use Rattle.sharc_cpu.specs.Thread.{IsThread, ThreadView}
 pub use Rattle.sharc_threads.specs.Ends.{AreStarted, IsAt, Standing, is_enabled}
 pub use Rattle.sharc_seq.specs.Run.{AreChosen, IsChosen}
 pub use Rattle.sharc_schedule.specs.Schedule.{Stored}
-pub use Rattle.sharc_flat.specs.{Flattened.flattened, Flattens.names_of, Laid.{AreLaid, AreNamed, AreTextsIn, lies_at, lock_text_of, spot_in, with_texts}, Machine.Flat, Made.flat_of, Tables.{all_first_words, cells_in, first_words, globals_from, globals_of, granules_in}, declared.flat.Flat.Flat as FlatCode, declared.op.Op.Op, declared.op.Spot.Spot}
-pub use Rattle.sharc_guard.specs.{Counted.IsUnder, Guard.{body, check_under, entered_at, expand, expanded, head, offset, own, place, source_of, tail, width}, Known.{Know, dropped, drops, drops_at, is_entry, is_led_to, is_target, know_after, known, leads_to, line_leads, nothing}}
+pub use Rattle.sharc_flat.specs.{Flattened.flattened, Flattens.names_of, Laid.{AreNamed, AreTold}, Machine.Flat, Made.flat_of, Tables.{all_first_words, cells_in, first_words, globals_from, globals_of, granules_in}, declared.flat.{Flat.Flat as FlatCode, LineTexts.LineTexts}, declared.op.Op.Op}
+pub use Rattle.sharc_guard.specs.{Counted.IsUnder, Guard.{body, entered_at, expand, expanded, head, offset, own, place, sites_of, tail, width}, Known.{dropped, drops_at, is_entry, is_led_to, is_target, know_after, known, nothing}}
 pub use Rattle.sharc_compile.specs.{Generated.{generated, instr_of}, Made.IsCodeOf, OfRuns.told_in, Refused.IsReport}
 pub use Rattle.sharc_run.specs.{Others.{access_of_any, against, check_by, has_number, is_first_write, is_same_place, noted, number_of, or_first_refused, or_later, or_read, or_refused, other_access, refused, refused_access, refused_by, was_refused_first, wrote_before}, Outcome.{HasOutcome, done, limited, reported, stuck}, Places.{at_site, lock_path, lvalue_at}, Run.IsEnd, RunText.{IsRunText, access_text, code_of, made_text, of_taking, of_use, other_text, print_line, stop_text, thread_line, trap_words, unstopped_text, wait_text, why_text}, declared.other.NotedCheck.NotedCheck, declared.run.Ran.Ran}
 pub use Rattle.sharc_replay.specs.Run.{IsScheduledRun}

@@ -12,9 +12,9 @@ pub use Rattle.sharc_meaning.specs.{Cells.{element_cells, field_place_named, glo
 pub use Rattle.sharc_heap.specs.declared.shadow_word.Kind.TheVariants.{Read, Write}
 pub use Rattle.sharc_code.proofs.Places.{put_all, put_other, put_same}
 pub use Rattle.sharc_code.specs.{Arithmetic.holds, Machine.{function_of, instr_at, no_function}, Runs.put, Says.{no_global, no_place, place_at}, declared.code.Code.Code, declared.code.Function.{Function as Row}, declared.code.GlobalCells.GlobalCells, declared.code.Parameter.Parameter, declared.code.PlaceMode.PlaceMode, declared.code.SourcePlace.SourcePlace, declared.code.Text.Text, declared.code.Use.Use, declared.instr.Cell.Cell, declared.instr.Instr.Instr, declared.instr.Instr.TheVariants.{Bounds, Call, ChkLock, ChkLockLoaded, ChkNull, ChkPositive, ChkRead, ChkRoom, ChkWidth, ChkWrite, Clear, Complement, ComputeInt, ComputeLong, Exchange, Exit, Give, GlobalBounds, Jump, JumpIfNull, JumpIfZero, Load, LoadRef, Lower, Move, MoveReference, NegateInt, NegateLong, New, Raise, RaiseLoaded, Return, SameReference as CompareReferences, Spawn, Start, Store, TakeCell, TakeLocal, TestSole}, declared.instr.Operator.Operator, declared.instr.Register.Register, declared.instr.Register.TheVariants.Reference, declared.instr.Width.Width, declared.instr.Width.TheVariants.{Char, Int, Long}}
-pub use Rattle.sharc_flat.specs.{Flattened.{Around, argument_words, arguments_code, around_body, behind_first, behind_int, behind_ref, behind_statement, behind_statements, binary_code, body_at, called_code, cast_code, compare_code, condition_code, constant_code, declared_lvalue, differ_code, drop_code, either_code, elements_code, expression_code, field_code, first_cell_of, first_code, function_code, functions_code, guard_of, in_function, initial_code, ints_of, is_ref, jump_code, kind_of, layout_of, local_code, logical_code, loop_code, looping, lvalue_code, lvalue_in, mode_of, named_code, opened, operator_of, parameter_of, parameters_scope, passed_code, place_call_code, place_code, refs_of, result_code, return_code, right_code, rows_of, simple_code, spawn_code, statement_code, statements_code, step_code, taken_guard, target_of, test_code, truth_code, turn_code, turns_code, unary_code, unary_place_code, unlocked_code, value_call_code, wait_code, what_names, with_variable, with_words, zero_code}, Flattens.{Flattens, names_of}, Framed.{BaseWithin, HandedWithin, IsWide, OpWrites}, Frames.{base_need, handed_need, int_need, ints_in as ints_needed, ref_need, refs_in as refs_needed}, Laid.{AreLaid, AreNamed, told_by, with_texts}, Laws.FitsMade, Machine.{Flat, first_cell, function_of as flat_function}, Made.flat_of, Places.{Target, base_width, bounds_code, cell_of, cell_store_code, cell_take_code, cell_value_code, copy_code, drop_base, global_of, guard_cell, guard_code, guard_field, guard_width, has_base, in_global, in_global_at, in_object, in_object_at, index_code, index_width, named_target, own_field, pointee_code, settle_base, settle_code, store_code, take_code, target, value_code, variable, width_code, width_of}, Scope.{Context, at_site, ends_from, int_count, leaves, number_in, pops, ref_count, register_from, register_of, slot_kind, slot_of}, Suits.{Either, is_cell, is_declaration}, Tables.{globals_from, globals_of, granules_in}, declared.flat.Flat.{Flat as FlatCode}, declared.op.Op.Op, declared.op.Spot.Spot, declared.slot.Lvalue.Lvalue, declared.slot.Slot.Slot}
+pub use Rattle.sharc_flat.specs.{Flattened.{Around, argument_words, arguments_code, around_body, behind_first, behind_int, behind_ref, behind_statement, behind_statements, binary_code, body_at, called_code, cast_code, compare_code, condition_code, constant_code, declared_lvalue, differ_code, drop_code, either_code, elements_code, expression_code, field_code, first_cell_of, first_code, function_code, functions_code, guard_of, in_function, initial_code, ints_of, is_ref, jump_code, kind_of, layout_of, local_code, logical_code, loop_code, looping, lvalue_code, lvalue_in, mode_of, named_code, opened, operator_of, parameter_of, parameters_scope, passed_code, place_call_code, place_code, refs_of, result_code, return_code, right_code, rows_of, simple_code, spawn_code, statement_code, statements_code, step_code, taken_guard, target_of, test_code, truth_code, turn_code, turns_code, unary_code, unary_place_code, unlocked_code, value_call_code, wait_code, what_names, with_variable, with_words, zero_code}, Flattens.{Flattens, names_of}, Framed.{BaseWithin, HandedWithin, IsWide, OpWrites}, Frames.{base_need, handed_need, int_need, ints_in as ints_needed, ref_need, refs_in as refs_needed}, Laws.FitsMade, Machine.{Flat, first_cell, function_of as flat_function}, Made.flat_of, Places.{Target, base_width, bounds_code, cell_of, cell_store_code, cell_take_code, cell_value_code, copy_code, drop_base, global_of, guard_cell, guard_code, guard_field, guard_width, has_base, in_global, in_global_at, in_object, in_object_at, index_code, index_width, named_target, own_field, pointee_code, settle_base, settle_code, store_code, take_code, target, value_code, variable, width_code, width_of}, Scope.{Context, at_site, ends_from, int_count, leaves, number_in, pops, ref_count, register_from, register_of, slot_kind, slot_of}, Suits.{Either, is_cell, is_declaration}, Tables.{globals_from, globals_of, granules_in}, declared.flat.{Flat.Flat as FlatCode, LineTexts.LineTexts}, declared.op.Op.Op, declared.op.Spot.Spot, declared.slot.Lvalue.Lvalue, declared.slot.Slot.Slot}
 pub use Rattle.sharc_flat_lemmas.{proofs.Flow.{Knowledge, agrees_all, agrees_left, agrees_right, get_right}, specs.Pieces.{Agrees, first}}
-pub use Rattle.sharc_guard.specs.{Guard.{check_under, entered_at, expand, expanded, offset, place, source_of, width}, Known.{Access, Know, SimplePlace, access, assigns, copy_given, counts, dropped, drops, drops_at, global_place, has_passed, in_variable, is_at, is_dynamic, is_entry, is_led_to, is_straight, is_target, know_after, know_next, known, leads_to, line_leads, nothing, number_given, of_constant, passes_by, place_of, same_place, tells, unless_written, variable_place, with_element, writes_int, writes_ref}}
+pub use Rattle.sharc_guard.specs.{Guard.{check_under, entered_at, expand, expanded, offset, place, sites_of, source_of, width, with_texts}, Known.{Access, Know, SimplePlace, access, assigns, copy_given, counts, dropped, drops, drops_at, global_place, has_passed, in_variable, is_at, is_dynamic, is_entry, is_led_to, is_straight, is_target, know_after, know_next, known, leads_to, line_leads, nothing, number_given, of_constant, passes_by, place_of, same_place, tells, unless_written, variable_place, with_element, writes_int, writes_ref}}
 pub use Rattle.sharc_compile.specs.{Generated.{generated, instr_of}, Made.IsCodeOf}
 pub use Rattle.sharc_invariant.proofs.{Frames.{kept_pass, wider}, Scoped.{less_entry_refl, less_gate_refl, less_number_refl, less_refl, scoped_empty, scoped_fill, scoped_gate, scoped_number}}
 pub use Rattle.sharc_invariant.specs.{Labels.{AllSame, Anything, Chained, Checked, Closed, Copies, Element, Empty, Entry, EntryMentions, Exactly, Fresh, Gate, HasBase, HasCopy, HasName, Holds, HoldsLoaded, Indexes, IsCopy, IsFree, IsIn, IsNamed as IsNameOf, IsScoped, Itself, Label, Labels, Leads, Less, LessEntry, LessGate, LessNumber, Loaded, Named, Narrower, Nth, Number, OfElement, OfGlobal, Pass, Refers, SameLock, SameReference, Signature, Sole, Unknown, Within, empty, fill, forgets, forgotten, gated, is_base, knows, names, set_number, some_names, without_base, without_copies, without_index}, Typed.{Accesses, AreFieldLocks, AreGlobals, Calls, Covers, Directly, Earlier, Fine, Fits as FitsWidth, Hands, HasBefore, HasCell, HasField, Initial, IsAnyLock, IsBaseFree, IsElement, IsFieldLock, IsInGlobal, IsLayout, IsLockCell, IsLockMode, IsMode, IsMutexOf, IsNotSole, IsOwn, IsPlace, IsSameContent, IsSameFieldLock, IsShared, IsSibling, IsTypeLock, IsTypeMode, IsUnpassed, IsVacant, IsWellTyped, LeadsChecked, MayAccess, MayStart, Numbers, Operands, Passes, PassesLock, Passes_on, PointsTo, Recasts, below, below_copy, below_number, below_pass, called_label, entry_label, handed_label, ints_in, is_comparison, is_shift, knows_base, moved_copy, no_lock, refs_in, unlocked_label, without_base_of}, Types.{AreTargets, CellMode, Content, Field, FieldLock, FieldMode, FieldType, Lock, Mentions, Names, ObjectType, SomeNames, StaticType, Targets, cells_of, field_at, field_in, field_of_cell, global_field, is_mutex, is_pointer, is_private, mode_at, mode_in, no_field, type_in}, Types.Content.{Integer, MutexWord, Pointer, Waiters}, Types.FieldLock.{OfElement as OfSameElement, OfGlobals, OfType}, Types.FieldMode.{Behind, Dynamic, Private, Racy, Readonly, Under}, Types.Lock.{Global, Self, Through}}

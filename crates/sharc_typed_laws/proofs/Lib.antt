@@ -44,7 +44,6 @@ pub mod Starting
 pub mod StatementAlike
 pub mod Stating
 pub mod Telling
-pub mod Texts
 pub mod TypedAlike
 pub mod TypedPlacing
 pub mod Values

@@ -156,8 +156,6 @@ module _ (around : Setting) (f : ℕ) (table : ℕ → Mark) (pc : ℕ) (s e : M
   pub on_cond_wait : (c : Cell) (spot : Spot) → l.gate ≡ Closed → HasWaiters around l c → Less l e.label → IsLine around f table pc s (Op.CondWait c spot)
   on_cond_wait c spot gate h less = goes_on (Op.CondWait c spot) (λ a z. absurd (none-some a z)) (λ z. never z) (λ dropped passes repeats jumps on. (gate, (h.field, cell_too c h.field (passes pc) h.has, h.waiters), last l (passes pc) (passes (pc + 1)) less (λ p k. on p k)))
 
-  pub on_cond_signal : (c : Cell) (spot : Spot) → l.gate ≡ Closed → HasWaiters around l c → Less l e.label → Told (Op.CondSignal c spot) → IsLine around f table pc s (Op.CondSignal c spot)
-  on_cond_signal c spot gate h less told = goes_on (Op.CondSignal c spot) (λ a z. absurd (none-some a z)) told (λ dropped passes repeats jumps on. (gate, (h.field, cell_too c h.field (passes pc) h.has, h.waiters), lesser l (passes pc) (passes (pc + 1)) less on))
-
-  pub on_cond_broadcast : (c : Cell) (spot : Spot) → l.gate ≡ Closed → HasWaiters around l c → Less l e.label → Told (Op.CondBroadcast c spot) → IsLine around f table pc s (Op.CondBroadcast c spot)
-  on_cond_broadcast c spot gate h less told = goes_on (Op.CondBroadcast c spot) (λ a z. absurd (none-some a z)) told (λ dropped passes repeats jumps on. (gate, (h.field, cell_too c h.field (passes pc) h.has, h.waiters), lesser l (passes pc) (passes (pc + 1)) less on))
+  -- a wake of one that waits, or of all: what is asked of the two is the same
+  pub on_wake : (o : Op) (c : Cell) (spot : Spot) → ((a : Access) → access o ≡ Some a → IsAtHand s a.cell) → (IsTypedAt around table pc s (Op.CondSignal c spot) → IsTypedAt around table pc s o) → l.gate ≡ Closed → HasWaiters around l c → Less l e.label → Told o → IsLine around f table pc s o
+  on_wake o c spot cells same gate h less told = goes_on o cells told (same (λ dropped passes repeats jumps on. (gate, (h.field, cell_too c h.field (passes pc) h.has, h.waiters), lesser l (passes pc) (passes (pc + 1)) less on)))

@@ -1,5 +1,5 @@
 -- The piece of guarded code that a line becomes is typed from what is known before the line to what may be known after it.
-use Rattle.sharc_typed_laws.proofs.{Imports.{◌≡◌, ◌≢◌, ℕ, Bool, true, false, List, [], ◌∷◌, ◌++◌, refl, sym, ap, ◌∙◌, subst, inl, inr, append_assoc, map-append, map, Code, SourcePlace, Cell, Instr, put, place_at, put_same, put_other, put_all, Op, Spot, instr_of, check_under, expand, source_of, Targets, StaticType, Field, Empty, Refers, Loaded, Sole, Label, Labels, EntryMentions, IsFree, empty, gated, IsUnpassed, Accesses, MayAccess, IsNotSole, IsMode, kept_pass, less_refl, all_at, Chain, known_behind, gate_behind, passed_behind, behind, before_check, tested, cleared, exchanged, inside, LeadsOn, PassesCheck, Loads, Stores, LoadsReference, StoresReference, LoadsGuard, Settles, Makes, Gives, Frees, TypedLine}, TypedAlike.{has_cell, less_entry, points_to, recasts}, Checking.{passed, chain_check, accesses, dynamic}}
+use Rattle.sharc_typed_laws.proofs.{Imports.{◌≡◌, ◌≢◌, ℕ, Bool, true, false, List, [], ◌∷◌, ◌++◌, refl, sym, ap, ◌∙◌, subst, inl, inr, append_assoc, map-append, map, Code, SourcePlace, Cell, Instr, put, place_at, put_same, put_other, put_all, Op, Spot, instr_of, check_under, expand, source_of, with_texts, LineTexts, Targets, StaticType, Field, Empty, Refers, Loaded, Sole, Label, Labels, EntryMentions, IsFree, empty, gated, IsUnpassed, Accesses, MayAccess, IsNotSole, IsMode, kept_pass, less_refl, all_at, Chain, known_behind, gate_behind, passed_behind, behind, before_check, tested, cleared, exchanged, inside, LeadsOn, PassesCheck, Loads, Stores, LoadsReference, StoresReference, LoadsGuard, Settles, Makes, Gives, Frees, TypedLine}, TypedAlike.{has_cell, less_entry, points_to, recasts}, Checking.{passed, chain_check, accesses, dynamic}}
 use Rattle.sharc_code.specs.declared.code.PlaceMode.TheVariants.{Readonly}
 
 mapped : {A B : Type 0} (f : A → B) (a b c : List A) → map f ((a ++ b) ++ c) ≡ map f a ++ map f (b ++ c)
@@ -25,7 +25,7 @@ module _ (x : Targets) (code : Code) (ls : Labels) (n : ℕ) (l k : Label) where
         ((refl, inr (record { is = h.target; empty = put_same l.env to Empty }, h.source, h.apart, free_without l to from h.source_free, plain, h.next)), tt),
       )
 
-  makes : (r count cells : ℕ) (spot : Spot) → place_at code n ≡ source_of (Op.New r count cells spot) → Makes x code l k r cells spot → Chain x code ls (l ∷ []) (Instr.New r count cells n ∷ []) k
+  makes : (r count cells : ℕ) (spot : Spot) {told : LineTexts} → place_at code n ≡ with_texts told (source_of (Op.New r count cells spot)) → Makes x code l k r cells spot → Chain x code ls (l ∷ []) (Instr.New r count cells n ∷ []) k
   makes r count cells spot site h =
       let token : (place_at code n).site.token ≡ spot.site.token = ap (λ (p : SourcePlace). p.site.token) site in
       ((h.closed, h.register, (h.type, h.some, h.row, h.size, h.few, (λ i. h.pointers i ∙ ap (λ t. x.is_made_pointer t i) (sym token)), h.other, h.next)), tt)
@@ -134,8 +134,8 @@ module _ (x : Targets) (code : Code) (ls : Labels) (n : ℕ) (l k : Label) where
 mode_of : (code : Code) (n : ℕ) (p : SourcePlace) → place_at code n ≡ p → (place_at code n).mode ≡ p.mode
 mode_of code n p e = ap (λ (q : SourcePlace). q.mode) e
 
-pub pieces : (x : Targets) (code : Code) (ls : Labels) (lines : ℕ) (dropped : Bool) (type : StaticType) (n : ℕ) (l k : Label) (o : Op) (pl : ℕ → ℕ)
-    → LeadsOn o → place_at code n ≡ source_of o → TypedLine x code ls lines dropped type n l k o
+pub pieces : (x : Targets) (code : Code) (ls : Labels) (lines : ℕ) (dropped : Bool) (type : StaticType) (n : ℕ) (l k : Label) (o : Op) (pl : ℕ → ℕ) {told : LineTexts}
+    → LeadsOn o → place_at code n ≡ with_texts told (source_of o) → TypedLine x code ls lines dropped type n l k o
     → Chain x code ls (inside x dropped type o l) (map (instr_of code.functions.items) (expand pl dropped n o)) k
 pieces x code ls lines dropped type n l k (Op.Skip over) pl on site h = absurd on
 pieces x code ls lines dropped type n l k (Op.SkipIfZero i over) pl on site h = absurd on

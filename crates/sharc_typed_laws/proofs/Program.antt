@@ -1,23 +1,10 @@
--- The flat code of a typable program, with its texts laid out, is typed whatever checks are remembered.
-use Rattle.sharc_typed_laws.proofs.{Imports.{AllByRecursion, ◌≡◌, ℕ, zero, suc, ◌+◌, ◌<◌, true, false, List, [], ◌∷◌, length, map, Option, Some, None, refl, sym, ap, ◌∙◌, subst, arith, same_Some, none-some, slice_get_within, slice_get, slice_index_or, Function, declared_kind, Row, GlobalCells, Text, no_function, function_of, Resolution, functions_in, function_at, Assignment, FlatCode, Op, Flat, flat_function, flat_of, in_function, function_code, functions_code, rows_of, Flattens, names_of, told_by, with_texts, AreLaid, AreNamed, FitsMade, int_count, globals_of, place, entered_at, dropped, Less, Closed, IsScoped, MayStart, ints_in, refs_in, entry_label, FlatLabels, outside, To, IsTypedAnyhow, Mark, Setting, IsLine, flat_labels, labels_by, mark, Typing, label_of, AreAllLines, LinesAreTyped, LinesTell, LinesKnow, FunctionTypable, FunctionsAreTyped, AreGlobalsNamed, TypableProgram, IsSettingOf, found, Agrees, Fits, agrees_all, before, first, get_or_past}, Framing.{AreFew, are_within}, Arrays.{arrays_low, globals_there}, Remembered.{variables, low}, Starting.{signature_plain, starts_by}, Texts.line_told}
-use Rattle.sharc_flat.specs.Flattened.{AreRows}
-use Rattle.sharc_flat_lemmas.proofs.{Functions.{Parts, Whole, are_rows, begin_of, is_there, owner_of, row_of, rows_as_many, whole}, Laid.{lines_many, mapped_same, rows_many, rows_same, told_at}}
+-- The flat code of a typable program is typed whatever checks are remembered.
+use Rattle.sharc_typed_laws.proofs.{Imports.{AllByRecursion, ◌≡◌, ℕ, zero, suc, ◌+◌, ◌<◌, true, false, List, [], ◌∷◌, length, map, Option, Some, None, refl, sym, ap, ◌∙◌, subst, arith, same_Some, none-some, slice_get_within, slice_get, slice_index_or, Function, declared_kind, Row, GlobalCells, no_function, function_of, functions_in, function_at, Assignment, FlatCode, Op, Flat, flat_function, flat_of, in_function, function_code, functions_code, Flattens, FitsMade, int_count, globals_of, place, entered_at, dropped, Less, Closed, IsScoped, MayStart, ints_in, refs_in, entry_label, FlatLabels, outside, To, IsTypedAnyhow, Mark, Setting, IsLine, flat_labels, labels_by, mark, Typing, label_of, AreAllLines, LinesAreTyped, LinesTell, LinesKnow, FunctionTypable, FunctionsAreTyped, AreGlobalsNamed, TypableProgram, IsSettingOf, found, Agrees, Fits, agrees_all, before, first, get_or_past}, Framing.{AreFew, are_within}, Arrays.{arrays_low, globals_there}, Remembered.{variables, low}, Starting.{signature_plain, starts_by}}
+use Rattle.sharc_flat.specs.{Flattened.AreRows, Laws.MadeIsFlattened}
+use Rattle.sharc_flat_lemmas.proofs.{Functions.{Parts, Whole, begin_of, is_there, owner_of, row_of, rows_as_many, whole}, Laid.mapped_same}
 use Rattle.sharc_lemmas.proofs.Lists.{map_length}
 use Rattle.sharc_flat_laws.specs.Tables.{MadeIsPast, OpPast}
 use Rattle.sharc_invariant.specs.{Typed.IsPlain, Types.Targets}
-
--- ---- lines with their texts laid out
-record Laid (made : List Op) (n : ℕ) (o : Op) : Type 0 where
-  lvalue : Text
-  lock : Text
-  at : slice_get made n ≡ Some (with_texts lvalue lock o)
-
-laid_at : (r : Resolution) (bytes : List ℕ) (os ps : List Op) → AreLaid r bytes os ps → (n : ℕ) (o : Op) → slice_get os n ≡ Some o → Laid ps n o
-laid_at r bytes [] [] h n o at = absurd (none-some o at)
-laid_at r bytes [] (q ∷ ps) h n o at = absurd h
-laid_at r bytes (x ∷ os) [] h n o at = absurd h
-laid_at r bytes (x ∷ os) (q ∷ ps) h zero o at = record { lvalue = h.0.lvalue; lock = h.0.lock; at = ap Some (h.0.is ∙ ap (with_texts h.0.lvalue h.0.lock) (same_Some x o at)) }
-laid_at r bytes (x ∷ os) (q ∷ ps) h (suc n) o at = let w = laid_at r bytes os ps h.1 n o at in record { lvalue = w.lvalue; lock = w.lock; at = w.at }
 
 past_at : (os : List Op) → AllByRecursion OpPast os → (n : ℕ) (o : Op) → slice_get os n ≡ Some o → OpPast o
 past_at [] h n o at = absurd (none-some o at)
@@ -30,7 +17,7 @@ first_there targets table pc [] s some agrees fits = absurd (omega (arith, some)
 first_there targets table pc (x ∷ marks) s some agrees fits = subst (Fits targets s) (sym agrees.0) fits
 
 -- ---- the whole
-module _ (typed_lines : LinesAreTyped) (tell : LinesTell) (know : LinesKnow) (functions_typed : FunctionsAreTyped) (made_past : MadeIsPast) (m : Assignment) (flat : FlatCode) (flattens : Flattens m flat) (fits : FitsMade (flat_of flat)) (known : AreGlobalsNamed m)
+module _ (typed_lines : LinesAreTyped) (tell : LinesTell) (know : LinesKnow) (functions_typed : FunctionsAreTyped) (made_past : MadeIsPast) (made_flat : MadeIsFlattened) (m : Assignment) (flat : FlatCode) (flattens : Flattens m flat) (fits : FitsMade (flat_of flat)) (known : AreGlobalsNamed m)
     (z : Setting) (of : IsSettingOf z flat) (y : Typing) (t : TypableProgram z y m) where
   abbrev globals : List GlobalCells
   globals = globals_of m.typed
@@ -44,31 +31,20 @@ module _ (typed_lines : LinesAreTyped) (tell : LinesTell) (know : LinesKnow) (fu
   abbrev L : List Op
   L = functions_code m globals 0 fs
 
-  abbrev rows : List Row
-  rows = rows_of m globals 0 fs
-
-  abbrev bytes : List ℕ
-  bytes = flat.texts.items
-
-  are : AreRows m globals 0 fs rows
-  are = are_rows m globals 0 fs
-
-  lines_laid : AreLaid m.typed bytes L made.lines
-  lines_laid = flattens.lays.lines
-
-  rows_named : AreNamed bytes rows (names_of fs) made.functions
-  rows_named = flattens.lays.functions
+  are : AreRows m globals 0 fs made.functions
+  are = subst (λ g. AreRows m g 0 fs made.functions) flattens.globals (made_flat m flat flattens).functions
 
   functions_made : length fs ≡ length made.functions
-  functions_made = rows_as_many m globals 0 fs rows are ∙ rows_many bytes rows (names_of fs) made.functions rows_named
+  functions_made = rows_as_many m globals 0 fs made.functions are
 
   many : length made.lines ≡ length L
-  many = sym (lines_many m.typed bytes L made.lines lines_laid)
+  many = ap length flattens.lines
+
+  line_made : (n : ℕ) → slice_get made.lines n ≡ slice_get L n
+  line_made n = ap (λ lines. slice_get lines n) flattens.lines
 
   few : AreFew L
-  few n o at = λ i elements cells field spot e.
-      let w = laid_at m.typed bytes L made.lines lines_laid n o at in
-      fits.few_cells n i elements cells field (told_by w.lvalue w.lock spot) (w.at ∙ ap (λ o. Some (with_texts w.lvalue w.lock o)) e)
+  few n o at = λ i elements cells field spot e. fits.few_cells n i elements cells field spot (line_made n ∙ at ∙ ap Some e)
 
   -- ---- the table of functions
   abbrev pl : ℕ → ℕ
@@ -80,17 +56,17 @@ module _ (typed_lines : LinesAreTyped) (tell : LinesTell) (know : LinesKnow) (fu
   functions_many : length z.code.functions.items ≡ length fs
   functions_many = ap length code_functions ∙ map_length (entered_at pl) made.functions ∙ sym functions_made
 
-  in_code : {A : Type 0} (of : Row → A) → ((row : Row) (pc : ℕ) → of (record row { entry = pc }) ≡ of row) → ((row : Row) (name : Text) → of (record row { name = name }) ≡ of row) → (n : ℕ) → of (function_of z.code n) ≡ of (slice_index_or rows n no_function)
-  in_code of entered renamed n = ap (λ rows. of (slice_index_or rows n no_function)) code_functions ∙ mapped_same of (entered_at pl) (λ row. entered row (pl row.entry)) made.functions n ∙ rows_same of renamed bytes rows (names_of fs) made.functions rows_named n
+  in_code : {A : Type 0} (of : Row → A) → ((row : Row) (pc : ℕ) → of (record row { entry = pc }) ≡ of row) → (n : ℕ) → of (function_of z.code n) ≡ of (flat_function made n)
+  in_code of entered n = ap (λ rows. of (slice_index_or rows n no_function)) code_functions ∙ mapped_same of (entered_at pl) (λ row. entered row (pl row.entry)) made.functions n
 
-  ints_are : (n : ℕ) → (function_of z.code n).ints ≡ (slice_index_or rows n no_function).ints
-  ints_are = in_code (λ row. row.ints) (λ row pc. refl) (λ row name. refl)
+  ints_are : (n : ℕ) → (function_of z.code n).ints ≡ (flat_function made n).ints
+  ints_are = in_code (λ row. row.ints) (λ row pc. refl)
 
-  refs_are : (n : ℕ) → (function_of z.code n).refs ≡ (slice_index_or rows n no_function).refs
-  refs_are = in_code (λ row. row.refs) (λ row pc. refl) (λ row name. refl)
+  refs_are : (n : ℕ) → (function_of z.code n).refs ≡ (flat_function made n).refs
+  refs_are = in_code (λ row. row.refs) (λ row pc. refl)
 
-  parameter_is : (n : ℕ) → (function_of z.code n).parameter ≡ (slice_index_or rows n no_function).parameter
-  parameter_is = in_code (λ row. row.parameter) (λ row pc. refl) (λ row name. refl)
+  parameter_is : (n : ℕ) → (function_of z.code n).parameter ≡ (flat_function made n).parameter
+  parameter_is = in_code (λ row. row.parameter) (λ row pc. refl)
 
   -- ---- what is said before each line
   abbrev begins_with : ℕ → Function → Mark
@@ -104,7 +80,7 @@ module _ (typed_lines : LinesAreTyped) (tell : LinesTell) (know : LinesKnow) (fu
       let pc = begin_of m globals 0 fs n in
       let C = function_code m globals pc f in
       let there = is_there m globals 0 fs n f at in
-      let row = row_of m globals 0 fs rows are n f at in
+      let row = row_of m globals 0 fs made.functions are n f at in
       let ints = ints_are n in
       let refs = refs_are n in
       let some : 0 < length C = omega arith in
@@ -132,13 +108,8 @@ module _ (typed_lines : LinesAreTyped) (tell : LinesTell) (know : LinesKnow) (fu
   abbrev owner : ℕ → ℕ
   owner = owner_of m globals 0 fs
 
-  told_lines : (n : ℕ) (o : Op) → slice_get L n ≡ Some o → IsLine z (owner n) table n (table n) o
-  told_lines n o at = let e : 0 + n ≡ n = omega arith in subst (λ q. IsLine z (owner q) table q (table q) o) e (functions.runs table tt agrees n o at)
-
   lines : AreAllLines z owner table made
-  lines n o at =
-      let w = told_at m.typed bytes L made.lines lines_laid n o at in
-      subst (IsLine z (owner n) table n (table n)) (sym w.is) (line_told w.lvalue w.lock z (owner n) table n (table n) w.line (told_lines n w.line w.at))
+  lines n o at = let e : 0 + n ≡ n = omega arith in subst (λ q. IsLine z (owner q) table q (table q) o) e (functions.runs table tt agrees n o (sym (line_made n) ∙ at))
 
   past : (n : ℕ) (o : Op) → slice_get made.lines n ≡ Some o → OpPast o
   past n o at = past_at made.lines (made_past m (globals_there m known fs (λ f c. c)) (arrays_low m.typed) flat flattens) n o at
@@ -151,11 +122,10 @@ module _ (typed_lines : LinesAreTyped) (tell : LinesTell) (know : LinesKnow) (fu
   entries f lt =
       let lt2 : f < length fs = subst (λ n. f < n) (sym functions_made) lt in
       let g = found fs f lt2 in
-      let row = row_of m globals 0 fs rows are f g.0 g.1 in
+      let row = row_of m globals 0 fs made.functions are f g.0 g.1 in
       let there = is_there m globals 0 fs f g.0 g.1 in
-      let here : (flat_function made f).entry ≡ begin_of m globals 0 fs f = rows_same (λ row. row.entry) (λ row name. refl) bytes rows (names_of fs) made.functions rows_named f ∙ row.entry in
       let fits = functions.begins table agrees f g.0 g.1 in
-      subst (λ pc. To (labels_by z table) (length made.lines) pc (entry_label (labels_by z table) f)) (sym here)
+      subst (λ pc. To (labels_by z table) (length made.lines) pc (entry_label (labels_by z table) f)) (sym row.entry)
       (omega (arith, there.high, many), subst (λ l. Less l (table (begin_of m globals 0 fs f)).label) (sym (entry_is f g.0 (t.functions f g.0 g.1))) fits.less)
 
   plain : (f : ℕ) → IsPlain (z.signature f)
@@ -174,7 +144,7 @@ module _ (typed_lines : LinesAreTyped) (tell : LinesTell) (know : LinesKnow) (fu
       let g = s.may.function in
       let h = t.functions f g s.may.at in
       let c = in_function m globals g in
-      let row = row_of m globals 0 fs rows are f g s.may.at in
+      let row = row_of m globals 0 fs made.functions are f g s.may.at in
       let ints = ints_are f in
       let refs = refs_are f in
       let row_ints = row.ints in
@@ -207,7 +177,7 @@ module _ (typed_lines : LinesAreTyped) (tell : LinesTell) (know : LinesKnow) (fu
     main_number = ap (λ n. (z.signature n).takes_ints 0) main_is ∙ (t.main flat.main flattens.main).number;
   }
 
-pub programs_typed : LinesAreTyped → LinesTell → LinesKnow → FunctionsAreTyped → MadeIsPast → (m : Assignment) (flat : FlatCode) → Flattens m flat → FitsMade (flat_of flat) → AreGlobalsNamed m → (z : Setting) → IsSettingOf z flat → (y : Typing) → TypableProgram z y m
+pub programs_typed : LinesAreTyped → LinesTell → LinesKnow → FunctionsAreTyped → MadeIsPast → MadeIsFlattened → (m : Assignment) (flat : FlatCode) → Flattens m flat → FitsMade (flat_of flat) → AreGlobalsNamed m → (z : Setting) → IsSettingOf z flat → (y : Typing) → TypableProgram z y m
     → (fl : FlatLabels) × IsTypedAnyhow z.targets z.code fl (flat_of flat)
-programs_typed typed_lines tell know functions made_past m flat flattens fits known z of y t =
-    (flat_labels z (table typed_lines tell know functions made_past m flat flattens fits known z of y t), program typed_lines tell know functions made_past m flat flattens fits known z of y t)
+programs_typed typed_lines tell know functions made_past made_flat m flat flattens fits known z of y t =
+    (flat_labels z (table typed_lines tell know functions made_past made_flat m flat flattens fits known z of y t), program typed_lines tell know functions made_past made_flat m flat flattens fits known z of y t)

@@ -1,5 +1,5 @@
 -- Labels of lines are those of the places where their pieces begin, and each piece is typed where it stands.
-use Rattle.sharc_typed_laws.proofs.{Imports.{◌≡◌, ℕ, zero, suc, ◌+◌, ◌≤◌, Bool, true, false, List, [], ◌∷◌, ◌++◌, length, map, Some, refl, sym, ap, ◌∙◌, subst, inl, inr, ⊎_elim, arith, map-append, get_or-append-add, AllByRecursion, slice_get, slice_index_or, Code, PlaceMode, Cell, Instr, Jump, JumpIfZero, JumpIfNull, Call, Return, Load, Store, LoadRef, Exchange, TakeCell, Exit, place_at, Op, Spot, instr_of, check_under, expand, expanded, width, offset, place, source_of, Targets, StaticType, Label, Labels, Less, IsScoped, IsFree, empty, knows, Fine, ints_in, refs_in, Steps, Chain, first_or, FlatLabels, outside, inside, before_check, known_behind, gate_behind, passed_behind, labels_from, TypedLine, To, less_refl}, Pieces.pieces, Preorder.less_through, Weaker.{accesses_among, calls_among, steps}, Scoping.scoped}
+use Rattle.sharc_typed_laws.proofs.{Imports.{◌≡◌, ℕ, zero, suc, ◌+◌, ◌≤◌, Bool, true, false, List, [], ◌∷◌, ◌++◌, length, map, Some, refl, sym, ap, ◌∙◌, subst, inl, inr, ⊎_elim, arith, map-append, get_or-append-add, AllByRecursion, slice_get, slice_index_or, Code, PlaceMode, Cell, Instr, Jump, JumpIfZero, JumpIfNull, Call, Return, Load, Store, LoadRef, Exchange, TakeCell, Exit, place_at, Op, Spot, instr_of, check_under, expand, expanded, width, offset, place, source_of, with_texts, LineTexts, Targets, StaticType, Label, Labels, Less, IsScoped, IsFree, empty, knows, Fine, ints_in, refs_in, Steps, Chain, first_or, FlatLabels, outside, inside, before_check, known_behind, gate_behind, passed_behind, labels_from, TypedLine, To, less_refl}, Pieces.pieces, Preorder.less_through, Weaker.{accesses_among, calls_among, steps}, Scoping.scoped}
 
 -- ---- one statement at its place
 at_place : (x : Targets) (code : Code) (ls : Labels) (at : ℕ → Label) (pc : ℕ) (l : Label) (i : Instr) → Steps x code ls l (at (pc + 1)) i → Fine x code (record ls { at = at }) pc l i
@@ -154,7 +154,8 @@ module _ (x : Targets) (code : Code) (ls : Labels) (at : ℕ → Label) where
 -- ---- lines
 pub record LineStands (x : Targets) (code : Code) (dropped : ℕ → Bool) (fl : FlatLabels) (lines n : ℕ) (o : Op) : Type 0 where
   pub typed : TypedLine x code fl.lines lines (dropped n) (fl.replaced n) n (fl.lines.at n) (fl.lines.at (n + 1)) o
-  pub site : place_at code n ≡ source_of o
+  pub told : LineTexts
+  pub site : place_at code n ≡ with_texts told (source_of o)
   pub placed : IsPlaced code (fl.lines.at n)
 
 module _ (x : Targets) (code : Code) (dropped : ℕ → Bool) (fl : FlatLabels) (lines : ℕ) where
@@ -245,7 +246,7 @@ module _ (x : Targets) (code : Code) (dropped : ℕ → Bool) (fl : FlatLabels) 
     piece_fine pc k (Op.Jump to) rest s there next = ((s.typed.0, goes_to to (fl.lines.at k) s.typed.1), tt)
     piece_fine pc k o rest s there next =
         chain_fine x code fl.lines at pc (inside x (dropped k) (fl.replaced k) o (fl.lines.at k)) (map (instr_of code.functions.items) (expand pl (dropped k) k o)) rest (fl.lines.at (k + 1))
-        (pieces x code fl.lines lines (dropped k) (fl.replaced k) k (fl.lines.at k) (fl.lines.at (k + 1)) o pl tt s.site s.typed) there next
+        (pieces x code fl.lines lines (dropped k) (fl.replaced k) k (fl.lines.at k) (fl.lines.at (k + 1)) o pl {told = s.told} tt s.site s.typed) there next
 
     pub lines_fine : (pc k : ℕ) (os : List Op) → AllStand k os → There x code fl.lines at pc (from k os) → Fines pc (from k os) (map (instr_of code.functions.items) (expanded pl dropped k os))
     lines_fine pc k [] a there = tt

@@ -1,5 +1,5 @@
 -- What is done with condition variables, after what is handed to it.
-use Rattle.sharc_typed_laws.proofs.{Imports.{◌≡◌, ◌≢◌, ℕ, ◌+◌, ◌<◌, ◌≤◌, ◌⊎◌, Bool, true, false, [], ◌∷◌, Some, refl, sym, ap, ◌∙◌, subst, inr, ⊎_elim, arith, false≢true, cases_eq, cases_lt, Cell, put, put_same, put_other, put_all, Op, Spot, Context, ref_count, first_cell_of, wait_code, StaticType, field_at, cells_of, MutexWord, Waiters, Empty, Refers, Gate, Closed, Holds, Label, Less, LessNumber, LessEntry, EntryMentions, IsScoped, fill, gated, knows, HasCell, ints_in, refs_in, less_refl, less_entry_refl, less_number_refl, scoped_fill, Mark, Setting, IsNamed, mark, Typing, HasMutex, HasWaiters, FirstCell}, Standing.{less_by, less_emptied_over, without_same, scoped_frame, unnamed}, Rules.on_check, Moves.{on_held, on_lock, on_unlock, on_cond_enter, on_cond_wait, on_cond_signal, on_cond_broadcast}, Parts.{At, at_fill, does, told_same, same_number, check_at, pop_at, pops_two}, Accessed.Frame, Words.words}
+use Rattle.sharc_typed_laws.proofs.{Imports.{◌≡◌, ◌≢◌, ℕ, ◌+◌, ◌<◌, ◌≤◌, ◌⊎◌, Bool, true, false, [], ◌∷◌, Some, refl, sym, ap, ◌∙◌, subst, inr, ⊎_elim, arith, false≢true, none-some, cases_eq, cases_lt, Cell, put, put_same, put_other, put_all, Op, Spot, Context, ref_count, first_cell_of, wait_code, StaticType, field_at, cells_of, MutexWord, Waiters, Empty, Refers, Gate, Closed, Holds, Label, Less, LessNumber, LessEntry, EntryMentions, IsScoped, fill, gated, knows, HasCell, ints_in, refs_in, less_refl, less_entry_refl, less_number_refl, scoped_fill, Mark, Setting, IsNamed, mark, Typing, HasMutex, HasWaiters, FirstCell}, Standing.{less_by, less_emptied_over, without_same, scoped_frame, unnamed}, Rules.on_check, Moves.{on_held, on_lock, on_unlock, on_cond_enter, on_cond_wait, on_wake}, Parts.{At, at_fill, does, told_same, same_number, check_at, pop_at, pops_two}, Accessed.Frame, Words.words}
 
 module _ (around : Setting) (f : ℕ) (D : (ℕ → Mark) → Type 0) (y : Typing) (c : Context) (low : (p : ℕ) → y.named c p ≡ true → p < ref_count c.scope) (from : ℕ) where
   open words around f D (y.named c) (ref_count c.scope) low from use {named as N, top, Q, fr as refs, joins}
@@ -31,12 +31,12 @@ module _ (around : Setting) (f : ℕ) (D : (ℕ → Mark) → Type 0) (y : Typin
 
     pub signalled : Q (mark (fill l r (Refers s) v false) from i) (Op.ChkNull r spot ∷ Op.CondSignal (first_cell_of r) spot ∷ Op.Pop r ∷ []) (mark l from i)
     signalled = waked (Op.CondSignal (first_cell_of r) spot) (does around f D N top low from (mark seen from i) (Op.CondSignal (first_cell_of r) spot) (mark seen from i) (λ _ h. h)
-        (λ table pc w h next. on_cond_signal around f table pc (mark seen from i) (mark seen from i) next (record { owned = fr.at.owned; scoped = h }) (first_cell_of r) spot refl (waiters h) (less_refl seen)
+        (λ table pc w h next. on_wake around f table pc (mark seen from i) (mark seen from i) next (record { owned = fr.at.owned; scoped = h }) (Op.CondSignal (first_cell_of r) spot) (first_cell_of r) spot (λ a z. absurd (none-some a z)) (λ t. t) refl (waiters h) (less_refl seen)
         (λ _ know t. told_same (Op.CondSignal (first_cell_of r) spot) (λ q. refl) (λ j. refl) around know (mark seen from i) (mark seen from i) (λ q. refl) (omega arith) (omega arith) (λ j n a b z. z) t)))
 
     pub broadcasted : Q (mark (fill l r (Refers s) v false) from i) (Op.ChkNull r spot ∷ Op.CondBroadcast (first_cell_of r) spot ∷ Op.Pop r ∷ []) (mark l from i)
     broadcasted = waked (Op.CondBroadcast (first_cell_of r) spot) (does around f D N top low from (mark seen from i) (Op.CondBroadcast (first_cell_of r) spot) (mark seen from i) (λ _ h. h)
-        (λ table pc w h next. on_cond_broadcast around f table pc (mark seen from i) (mark seen from i) next (record { owned = fr.at.owned; scoped = h }) (first_cell_of r) spot refl (waiters h) (less_refl seen)
+        (λ table pc w h next. on_wake around f table pc (mark seen from i) (mark seen from i) next (record { owned = fr.at.owned; scoped = h }) (Op.CondBroadcast (first_cell_of r) spot) (first_cell_of r) spot (λ a z. absurd (none-some a z)) (λ t. t) refl (waiters h) (less_refl seen)
         (λ _ know t. told_same (Op.CondBroadcast (first_cell_of r) spot) (λ q. refl) (λ j. refl) around know (mark seen from i) (mark seen from i) (λ q. refl) (omega arith) (omega arith) (λ j n a b z. z) t)))
 
   -- ---- a thread waits: the mutex is given back meanwhile

@@ -1,11 +1,13 @@
 -- Code that is made of typed flat code is typed.
-use Rattle.sharc_typed_laws.proofs.{Imports.{◌≡◌, ℕ, zero, suc, ◌+◌, ◌<◌, ◌⊎◌, Bool, true, List, [], ◌∷◌, length, map, Some, None, refl, sym, ap, ◌∙◌, subst, inl, inr, arith, AllByRecursion, slice_get, slice_index_or, Code, Row as Function, Instr, Start, Exit, instr_at, function_of, no_function, place_at, no_place, IsCodeOf, instr_of, generated, FlatCode, Op, flat_function, flat_of, expanded, place, source_of, entered_at, dropped, Targets, Label, Labels, IsScoped, Leads, Fine, IsWellTyped, MayStart, ints_in, refs_in, entry_label, less_refl, FlatLabels, outside, labels_from, labels_of, IsTypedFlat}, TypedPlacing.{IsPlaced, FineList, There, LineStands, AllStand, all_stand, all_places, fine_at, lines_fine, goes_to}, Lines.{within as line_within}}
+use Rattle.sharc_typed_laws.proofs.{Imports.{◌≡◌, ℕ, zero, suc, ◌+◌, ◌<◌, ◌⊎◌, Bool, true, List, [], ◌∷◌, length, map, Some, None, refl, sym, ap, ◌∙◌, subst, inl, inr, arith, AllByRecursion, slice_get, slice_index_or, Code, Row as Function, Instr, Start, Exit, instr_at, function_of, no_function, place_at, no_place, IsCodeOf, instr_of, generated, FlatCode, Op, flat_function, flat_of, expanded, place, source_of, sites_of, with_texts, LineTexts, entered_at, dropped, Targets, Label, Labels, IsScoped, Leads, Fine, IsWellTyped, MayStart, ints_in, refs_in, entry_label, less_refl, FlatLabels, outside, labels_from, labels_of, IsTypedFlat}, TypedPlacing.{IsPlaced, FineList, There, LineStands, AllStand, all_stand, all_places, fine_at, lines_fine, goes_to}, Lines.{within as line_within}}
 
 -- ---- lists
-source_there : (os : List Op) (n : ℕ) (o : Op) → slice_get os n ≡ Some o → slice_index_or (map source_of os) n no_place ≡ source_of o
-source_there [] n o e = absurd (cc)
-source_there (p ∷ os) zero o e = let h : p ≡ o = cc in ap source_of h
-source_there (p ∷ os) (suc n) o e = source_there os n o e
+source_there : (os : List Op) (ts : List LineTexts) (n : ℕ) (o : Op) → slice_get os n ≡ Some o → (told : LineTexts) × (slice_index_or (sites_of os ts) n no_place ≡ with_texts told (source_of o))
+source_there [] ts n o e = absurd (cc)
+source_there (p ∷ os) [] zero o e = let h : p ≡ o = cc in (record { lvalue = (source_of o).lvalue; lock = (source_of o).lock }, ap source_of h)
+source_there (p ∷ os) (t ∷ ts) zero o e = let h : p ≡ o = cc in (t, ap (λ o. with_texts t (source_of o)) h)
+source_there (p ∷ os) [] (suc n) o e = source_there os [] n o e
+source_there (p ∷ os) (t ∷ ts) (suc n) o e = source_there os ts n o e
 
 function_there : (h : Function → Function) (fs : List Function) (f : ℕ) → f < length (map h fs) → slice_index_or (map h fs) f no_function ≡ h (slice_index_or fs f no_function)
 function_there h [] f lt = absurd (omega arith)
@@ -64,11 +66,11 @@ module _ (x : Targets) (flat : FlatCode) (code : Code) (fl : FlatLabels) (is : I
   instrs_are : code.instrs.items ≡ instrs
   instrs_are = is.generated.instrs ∙ ap (λ fs. generated fs is.g.statements.items) (sym functions_are) ∙ ap (generated code.functions.items) is.made.statements
 
-  site : (n : ℕ) (o : Op) → slice_get lines n ≡ Some o → place_at code n ≡ source_of o
-  site n o e = ap (λ sites. slice_index_or sites n no_place) (sites_are ∙ is.made.sites) ∙ source_there lines n o e
+  site : (n : ℕ) (o : Op) → slice_get lines n ≡ Some o → (told : LineTexts) × (place_at code n ≡ with_texts told (source_of o))
+  site n o e = let w = source_there lines flat.told.items n o e in (w.0, ap (λ sites. slice_index_or sites n no_place) (sites_are ∙ is.made.sites) ∙ w.1)
 
   line_stands : (n : ℕ) (o : Op) → slice_get lines n ≡ Some o → LineStands x code d fl (length lines) n o
-  line_stands n o e = let lt = line_within lines n o e in record { typed = t.lines n o e; site = site n o e; placed = (t.scoped n lt, t.owned n lt) }
+  line_stands n o e = let lt = line_within lines n o e in let s = site n o e in record { typed = t.lines n o e; told = s.0; site = s.1; placed = (t.scoped n lt, t.owned n lt) }
 
   all_lines : AllStand x code d fl (length lines) 0 lines
   all_lines = all_stand x code d fl (length lines) 0 lines

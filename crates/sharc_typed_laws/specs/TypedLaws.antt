@@ -1,10 +1,12 @@
 -- The code of typed flat code is typed.
 use Rattle.std.specs.{Prelude.{ℕ, ◌≡◌, Bool, map}, List.AllByRecursion}
 use Rattle.sharc_code.specs.{declared.code.Code.Code, Says.place_at}
-use Rattle.sharc_flat.specs.{declared.flat.Flat.{Flat as FlatCode}, declared.op.Op.Op, Machine.Flat, Made.flat_of}
+use Rattle.sharc_flat.specs.{declared.flat.{Flat.Flat as FlatCode, LineTexts.LineTexts}, declared.op.Op.Op}
+use Rattle.sharc_flat.specs.Machine.{Flat}
+use Rattle.sharc_flat.specs.Made.{flat_of}
 use Rattle.sharc_flat.specs.declared.op.Op.TheVariants as op
 use Rattle.sharc_compile.specs.{Generated.instr_of, Made.IsCodeOf}
-use Rattle.sharc_guard.specs.{Guard.{expand, source_of}, Known.dropped}
+use Rattle.sharc_guard.specs.{Guard.{expand, source_of, with_texts}, Known.dropped}
 use Rattle.sharc_invariant.specs.{Types.{Targets, StaticType}, Labels.{Label, Labels, IsScoped}}
 use Rattle.sharc_invariant.specs.Typed.{IsWellTyped, ints_in, refs_in}
 use Rattle.sharc_typed_laws.specs.{Steps.Chain, Inside.{FlatLabels, inside, labels_of}, Lines.{TypedLine, IsTypedFlat}}
@@ -22,8 +24,8 @@ LeadsOn o = Unit {0}
 -- before the next one.
 abbrev pub PiecesAreTyped : Type 0
 PiecesAreTyped = (x : Targets) (code : Code) (ls : Labels) (lines : ℕ) (dropped : Bool) (type : StaticType) (n : ℕ)
-    (l k : Label) (o : Op) (pl : ℕ → ℕ)
-    → LeadsOn o → place_at code n ≡ source_of o → TypedLine x code ls lines dropped type n l k o
+    (l k : Label) (o : Op) (pl : ℕ → ℕ) (told : LineTexts)
+    → LeadsOn o → place_at code n ≡ with_texts told (source_of o) → TypedLine x code ls lines dropped type n l k o
     → Chain x code ls (inside x dropped type o l) (map (instr_of code.functions.items) (expand pl dropped n o)) k
 
 -- and what is known at each of its places names registers of its frame that hold something

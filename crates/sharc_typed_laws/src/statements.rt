@@ -7,6 +7,7 @@ use crate::{
     lines_law, locals_law, returns_nothing_law, simples_law, tells_law, tests_law,
     values_return_law,
 };
+use sharc_flat::laws::made_is_flattened;
 use sharc_flat_laws::laws::made_is_past;
 
 /// The code of a function of which the types say what is asked is typed, wherever it is.
@@ -35,6 +36,7 @@ pub fn programs_law()
     tells_law();
     knows_law();
     made_is_past();
+    made_is_flattened();
 }
 
 /// So the code that is made of it is typed.

@@ -1,5 +1,5 @@
 -- A thread of the code of a typed program that has come to a place, and what the program does there.
-use Rattle.sharc_wants_laws.proofs.{Imports.{◌≡◌, ℕ, zero, suc, ℤ, ◌+◌, ◌<◌, ◌≤◌, ◌⊎◌, inl, inr, ⊎_elim, Bool, List, [], ◌∷◌, length, length-map, map, refl, sym, ap, ◌∙◌, subst, arith, get_or as slice_index_or, SourceEvent, Assignment, IsNamedAt, answers_of, function_at, Outcome, spent, Code, Row as Function, Instr, Exit, Shape, Machine, CodePath, begun, machine_after, instr_at, no_function, function_of, paced_in, Flat, At, exec, start, at_after, asked, AsksTheSame, MayStart, SameAs, FlatCode, Flattens, IsCodeOf, flat_of, Guarded, Program, Thread, statement_at, started, thread_after, Guards, Comes, IsGuarded, IsMade, dropped, entered_at, guarded, place, Elements, IsConsistent, said_in, begins, HasCome, IsBeginning, IsGenerated, instr_of, program_of, lowered_in}, Copying.more_turns}
+use Rattle.sharc_wants_laws.proofs.{Imports.{◌≡◌, ℕ, zero, suc, ℤ, ◌+◌, ◌<◌, ◌≤◌, ◌⊎◌, inl, inr, ⊎_elim, Bool, List, [], ◌∷◌, length, length-map, map, refl, sym, ap, ◌∙◌, subst, arith, get_or as slice_index_or, SourceEvent, Assignment, IsNamedAt, answers_of, function_at, Outcome, spent, Code, Row as Function, Instr, Exit, Shape, Machine, CodePath, begun, machine_after, instr_at, no_function, function_of, paced_in, Flat, At, exec, start, at_after, asked, AsksTheSame, MayStart, SameAs, FlatCode, Flattens, IsCodeOf, flat_of, Guarded, Program, Thread, statement_at, started, thread_after, Guards, Comes, IsGuarded, IsMade, dropped, entered_at, guarded, place, Elements, IsConsistent, said_in, begins, HasCome, IsBeginning, IsGenerated, instr_of, program_of, lowered_in, BeginsWithStarted}, Copying.more_turns}
 use Rattle.sharc_meaning.specs.Meaning as Meaning
 use Rattle.sharc_flat.specs.{Laws.FitsMade, Quiet.{PathLaws, given_in}}
 use Rattle.sharc_guard.specs.Framed.{FramedIsGuarded}
@@ -153,3 +153,18 @@ module _ {m : Assignment} {code : Code} {s : Shape} {T : Elements} {thread : ℕ
 
   pub asked_events : (fuel : ℕ) → Rests fuel → there.events ≡ (asked_by fuel).events
   asked_events fuel r = comes.stands.events ∙ sym (w.paths.still w.flat (suc r.0) rest).0 ∙ r.1.events
+
+  -- it begins with the Started of its function
+  pub begun_with : (Then : ℕ → ℤ → List SourceEvent → Type 0) → (MayStart m w.has.function → Then w.has.function w.has.argument told) → BeginsWithStarted m thread said Then
+  begun_with Then stands = record {
+    function = w.has.function;
+    argument = w.has.argument;
+    begins = by thread (begins w.p w.has.function w.has.argument);
+    after = there.events;
+    starts = w.has.events;
+    own = refl;
+    act = refl;
+    answer = refl;
+    site = is_named;
+    stands = stands;
+  }

@@ -1,18 +1,8 @@
 -- What an argument that is not read refers to, a Spawn has given.
-use Rattle.sharc_wants_laws.proofs.Imports.{◌≡◌, ◌≢◌, ℕ, zero, suc, pos, ◌+◌, ◌^◌, ◌<◌, Bool, true, false, ◌&&◌, ◌||◌, length, List, [], ◌∷◌, map, if◌then◌else◌, refl, sym, ap, ◌∙◌, arith, false≢true, nat_tests, get_or as slice_index_or, slice_get, Spawn, SourceEvent, Declaration, Function, declared_kind, is_pointer, functions_in, function_at, Assignment, History, number_of, References, refers, has_pointer, takes_reference, passes, in_argument, is_spawn, is_natural, spawns, Code, Row, function_of, no_function, reference, GlobalCells, Parameter, function_code, parameter_of, rows_of, names_of, Flattens, AreNamed, globals_of, FlatCode, flat_of, entered_at, place, dropped, IsCodeOf, IsGivenTo}
+use Rattle.sharc_wants_laws.proofs.Imports.{◌≡◌, ◌≢◌, ℕ, zero, suc, pos, ◌+◌, ◌^◌, ◌<◌, Bool, true, false, ◌&&◌, ◌||◌, length, List, [], ◌∷◌, if◌then◌else◌, refl, sym, ap, ◌∙◌, arith, false≢true, nat_tests, get_or as slice_index_or, slice_get, Spawn, SourceEvent, Declaration, Function, declared_kind, is_pointer, functions_in, function_at, Assignment, History, number_of, References, refers, has_pointer, takes_reference, passes, in_argument, is_spawn, is_natural, spawns, Code, Row, function_of, no_function, reference, GlobalCells, Parameter, function_code, parameter_of, rows_of, names_of, Flattens, globals_of, FlatCode, flat_of, entered_at, place, dropped, IsCodeOf, IsGivenTo}
+use Rattle.sharc_flat_lemmas.proofs.Laid.{mapped_same, rows_same}
 
 -- ---- what the function of a row takes
-entered_parameter : (pl : ℕ → ℕ) (rows : List Row) (n : ℕ) → (slice_index_or (map (entered_at pl) rows) n no_function).parameter ≡ (slice_index_or rows n no_function).parameter
-entered_parameter pl [] n = refl
-entered_parameter pl (x ∷ rows) zero = refl
-entered_parameter pl (x ∷ rows) (suc n) = entered_parameter pl rows n
-
-named_parameter : (bytes : List ℕ) (told : List Row) (names : List (List ℕ)) (made : List Row) (n : ℕ) → AreNamed bytes told names made → (slice_index_or made n no_function).parameter ≡ (slice_index_or told n no_function).parameter
-named_parameter bytes [] [] [] n h = refl
-named_parameter bytes (x ∷ xs) (k ∷ ks) (y ∷ ys) zero h = ap (λ (r : Row). r.parameter) h.0.is
-named_parameter bytes (x ∷ xs) (k ∷ ks) (y ∷ ys) (suc n) h = named_parameter bytes xs ks ys n h.1
-named_parameter bytes _ _ _ n h = absurd h
-
 takes_first : (ds : List Declaration) → parameter_of ds ≡ Parameter.Reference → takes_reference ds ≡ true
 takes_first [] e = absurd (let z : Parameter.None ≡ Parameter.Reference = e in cc)
 takes_first (d ∷ rest) e = by (is_pointer (declared_kind d.written)) e
@@ -33,8 +23,8 @@ row_parameter m flat made code is f =
     let gs = globals_of m.typed in
     let pl = place (dropped (flat_of flat)) flat.lines.items in
     ap (λ v. (slice_index_or v.items f no_function).parameter) is.generated.functions
-    ∙ ap (λ (rows : List Row). (slice_index_or rows f no_function).parameter) is.made.functions ∙ entered_parameter pl flat.functions.items f
-    ∙ named_parameter flat.texts.items (rows_of m gs 0 fs) (names_of fs) flat.functions.items f made.lays.functions
+    ∙ ap (λ (rows : List Row). (slice_index_or rows f no_function).parameter) is.made.functions ∙ mapped_same (λ row. row.parameter) (entered_at pl) (λ row. refl) flat.functions.items f
+    ∙ rows_same (λ row. row.parameter) (λ row name. refl) flat.texts.items (rows_of m gs 0 fs) (names_of fs) flat.functions.items made.functions f
 
 takes_pointer : (m : Assignment) (flat : FlatCode) → Flattens m flat → (code : Code) → IsCodeOf flat code → (f : ℕ) → (function_of code f).parameter ≡ Parameter.Reference → has_pointer (function_at m.typed f) ≡ true
 takes_pointer m flat made code is f e = row_reference m (globals_of m.typed) 0 (functions_in m.typed.program.items) f (sym (row_parameter m flat made code is f) ∙ e)

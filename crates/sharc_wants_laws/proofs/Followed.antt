@@ -1,5 +1,5 @@
 -- In guarded code a check is directly before its access, and so in the code that is made of it.
-use Rattle.sharc_wants_laws.proofs.Imports.{◌≡◌, ℕ, zero, suc, ◌+◌, Bool, true, false, List, [], ◌∷◌, ◌++◌, map, refl, sym, ap, ◌∙◌, subst, arith, map-append, get_or as slice_index_or, Code, Row as Function, PlaceMode, Dynamic, LockedGlobal, LockedSibling, LockedThrough, LockedLoaded, SourcePlace, Cell, Operator, Width, Int, Instr, place_at, no_place, FlatCode, Op, Spot, flat_of, instr_of, generated, IsCodeOf, check_under, compute, negate, expand, expanded, place, source_of, dropped, IsLocked, IsFollowed, ChecksAreFollowed}
+use Rattle.sharc_wants_laws.proofs.Imports.{◌≡◌, ℕ, zero, suc, ◌+◌, Bool, true, false, List, [], ◌∷◌, ◌++◌, map, refl, sym, ap, ◌∙◌, subst, arith, map-append, get_or as slice_index_or, Code, Row as Function, PlaceMode, Dynamic, LockedGlobal, LockedSibling, LockedThrough, LockedLoaded, Cell, Operator, Width, Int, Instr, place_at, no_place, FlatCode, Op, Spot, flat_of, instr_of, generated, IsCodeOf, check_under, compute, negate, expand, expanded, place, sites_of, source_of, LineTexts, slice_get, Some, dropped, IsLocked, IsFollowed, ChecksAreFollowed}
 use Rattle.sharc_history_laws.specs.Followed.{Accesses}
 
 abbrev next_of : List Instr → Instr
@@ -63,22 +63,29 @@ module _ (code : Code) where
     piece drop pl n Op.BlockEnd rest e h = h
     piece drop pl n o rest e h = (tt, h)
 
-    -- the lines from this one on have these sites
+    -- the sites of the lines from this one on have these modes
     abbrev SitesFrom : ℕ → List Op → Type 0
-    SitesFrom k os = (j : ℕ) → place_at code (k + j) ≡ slice_index_or (map source_of os) j no_place
+    SitesFrom k os = (j : ℕ) (o : Op) → slice_get os j ≡ Some o → (place_at code (k + j)).mode ≡ (source_of o).mode
 
     next_sites : (k : ℕ) (o : Op) (os : List Op) → SitesFrom k (o ∷ os) → SitesFrom (k + 1) os
-    next_sites k o os h j = let e : k + suc j ≡ k + 1 + j = omega arith in sym (ap (place_at code) e) ∙ h (suc j)
+    next_sites k o os h j p at = let e : k + suc j ≡ k + 1 + j = omega arith in sym (ap (λ n. (place_at code n).mode) e) ∙ h (suc j) p at
 
     lines : (drop : ℕ → Bool) (pl : ℕ → ℕ) (k : ℕ) (os : List Op) → SitesFrom k os → AllFollowed (map f (expanded pl drop k os))
     lines drop pl k [] sites = tt
     lines drop pl k (o ∷ os) sites =
         let e : k + 0 ≡ k = omega arith in
-        let site : (place_at code k).mode ≡ (source_of o).mode = ap (λ n. (place_at code n).mode) (sym e) ∙ ap (λ (p : SourcePlace). p.mode) (sites 0) in
+        let site : (place_at code k).mode ≡ (source_of o).mode = ap (λ n. (place_at code n).mode) (sym e) ∙ sites 0 o refl in
         subst AllFollowed (sym (map-append f (expand pl (drop k) k o) (expanded pl drop (k + 1) os)))
         (piece (drop k) pl k o (map f (expanded pl drop (k + 1) os)) site (lines drop pl (k + 1) os (next_sites k o os sites)))
 
 -- ---- the code
+mode_there : (os : List Op) (ts : List LineTexts) (n : ℕ) (o : Op) → slice_get os n ≡ Some o → (slice_index_or (sites_of os ts) n no_place).mode ≡ (source_of o).mode
+mode_there [] ts n o e = absurd (cc)
+mode_there (p ∷ os) [] zero o e = let h : p ≡ o = cc in ap (λ o. (source_of o).mode) h
+mode_there (p ∷ os) (t ∷ ts) zero o e = let h : p ≡ o = cc in ap (λ o. (source_of o).mode) h
+mode_there (p ∷ os) [] (suc n) o e = mode_there os [] n o e
+mode_there (p ∷ os) (t ∷ ts) (suc n) o e = mode_there os ts n o e
+
 pub code_followed : (flat : FlatCode) (code : Code) → IsCodeOf flat code → ChecksAreFollowed code
 code_followed flat code is pc =
     let d = dropped (flat_of flat) in
@@ -86,10 +93,12 @@ code_followed flat code is pc =
     let pl = place d all in
     let fs = code.functions.items in
     let functions_are : code.functions.items ≡ is.g.functions.items = λ i. (is.generated.functions i).items in
-    let sites_are : code.sites.items ≡ map source_of all = (λ i. (is.generated.sites i).items) ∙ is.made.sites in
+    let sites_are : code.sites.items ≡ sites_of all flat.told.items = (λ i. (is.generated.sites i).items) ∙ is.made.sites in
     let instrs_are : code.instrs.items ≡ Instr.Start 0 ∷ Instr.Exit ∷ map (instr_of fs) (expanded pl d 0 all) =
     is.generated.instrs ∙ ap (λ fs. generated fs is.g.statements.items) (sym functions_are) ∙ ap (generated fs) is.made.statements in
-    let sites : (j : ℕ) → place_at code (0 + j) ≡ slice_index_or (map source_of all) j no_place = λ j. let e : 0 + j ≡ j = omega arith in ap (place_at code) e ∙ ap (λ sites. slice_index_or sites j no_place) sites_are in
+    let sites : (j : ℕ) (o : Op) → slice_get all j ≡ Some o → (place_at code (0 + j)).mode ≡ (source_of o).mode =
+    λ j o at. let e : 0 + j ≡ j = omega arith in ap (λ n. (place_at code n).mode) e ∙ ap (λ sites. (slice_index_or sites j no_place).mode) sites_are ∙ mode_there all flat.told.items j o at
+    in
     let whole : AllFollowed code (Instr.Start 0 ∷ Instr.Exit ∷ map (instr_of fs) (expanded pl d 0 all)) = (tt, (tt, lines code fs d pl 0 all sites)) in
     subst (λ is. IsFollowed code (slice_index_or is pc Instr.Exit) (slice_index_or is (pc + 1) Instr.Exit)) (sym instrs_are)
     (followed_at code (Instr.Start 0 ∷ Instr.Exit ∷ map (instr_of fs) (expanded pl d 0 all)) whole pc)

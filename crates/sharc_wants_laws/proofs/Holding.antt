@@ -1,7 +1,7 @@
 -- From the registers of code to what the program holds that was asked by the answers of its own events.
-use Rattle.sharc_wants_laws.proofs.{Imports.{◌≡◌, ◌≢◌, ℕ, zero, suc, ℤ, pos, ◌+◌, ◌<◌, ◌⊎◌, inl, inr, ⊎_elim, Bool, List, [], ◌∷◌, ◌++◌, map, refl, sym, ap, ◌∙◌, subst, arith, append_assoc, append-nil, cond, ◌==◌, eq-eqb, true, false, false≢true, get_or-set_other, slice_index, slice_set, CellAt, SourceEvent, Assignment, GivenUp, Emptied, Released, Replaced, number_of, Code, TestSole, Free, Shape, Machine, instr_at, Flat, At, goes, asks, halts, turn, on_turn, exec, MayStart, Thread, statement_at, Resolved, AreLowered, IsReleased, IsReplaced, OnWay, Quietly, place, Elements, begins, instr_of, IsReference, IsAt, IsLinking, is_freed, register_of, IsAccounted, IsLowered, IsHolding, IsHoldingThere}, Emptying.{at_free, not_linking}, Testing.{test_is, no_free, tested}, Coming.{Coming, Rests, asked_by, asked_events, comes, instr_is, is_named, rest, there, told, with_some}, Cells.number_is}
+use Rattle.sharc_wants_laws.proofs.{Imports.{◌≡◌, ◌≢◌, ℕ, zero, suc, ℤ, pos, ◌+◌, ◌<◌, ◌⊎◌, inl, inr, ⊎_elim, Bool, List, [], ◌∷◌, ◌++◌, map, refl, sym, ap, ◌∙◌, subst, arith, append_assoc, append-nil, cond, ◌==◌, eq-eqb, true, false, false≢true, get_or-set_other, slice_index, slice_set, CellAt, SourceEvent, Assignment, GivenUp, Emptied, Released, Replaced, number_of, Code, TestSole, Free, Shape, Machine, instr_at, Flat, At, goes, asks, halts, turn, on_turn, exec, MayStart, Thread, statement_at, Resolved, AreLowered, IsReleased, IsReplaced, OnWay, Quietly, place, Elements, instr_of, IsReference, IsAt, IsLinking, is_freed, register_of, IsAccounted, IsLowered, IsHolding, IsHoldingThere}, Emptying.{at_free, not_linking}, Testing.{test_is, no_free, tested}, Coming.{Coming, Rests, asked_by, asked_events, begun_with, comes, instr_is, rest, there, told, with_some}, Cells.number_is}
 use Rattle.sharc_meaning.specs.Meaning as Meaning
-use Rattle.sharc_flat.specs.{Machine.{Turn}, Quiet.{IsQuiet, PathLaws}}
+use Rattle.sharc_flat.specs.{Machine.Turn, Quiet.{IsQuiet, PathLaws}}
 use Rattle.sharc_compile.specs.Correct.{by}
 
 -- ---- what flat code does without an answer
@@ -160,15 +160,4 @@ module _ {m : Assignment} {code : Code} {s : Shape} {T : Elements} {thread : ℕ
       }
 
   pub held_there : IsHoldingThere m code thread at said lowered
-  held_there = record {
-    function = w.has.function;
-    argument = w.has.argument;
-    begins = by thread (begins w.p w.has.function w.has.argument);
-    after = a.events;
-    starts = w.has.events;
-    own = refl;
-    act = refl;
-    answer = refl;
-    site = is_named w;
-    holds = holds_by;
-  }
+  held_there = begun_with w (λ f argument told. IsHolding m code f argument thread told at lowered) holds_by

@@ -12,11 +12,11 @@ pub use Rattle.sharc_meaning.specs.{Arithmetic.{bits_of, complement, fits, is_ze
 pub use Rattle.sharc_word.specs.{declared.step.TheConstants.THREADS, declared.step.WordEvent.WordEvent, declared.step.WordStep.WordStep}
 pub use Rattle.sharc_heap.specs.Count.{test_of}
 pub use Rattle.sharc_code.specs.{Arithmetic.{computed, int_of, word_of}, Layout.{Fits, cell_word, count_word, granule_at, granules, length_word, words_of}, Machine.{Machine, act, function_of, instr_at, int, no_function, ref}, Paced.paced_in, Path.{CodePath, after, begun, machine_after, may_go, most_refs}, Ranges.{IsInGlobal, first_place as first_cell_of}, Runs.{Answered, Global, IsRun, Said, Turn, result_of, said_by, step_of, turns_of}, Says.{global_cell, in_start, kind_of, lock_through, made_cell, mode_of, no_global, no_place, place_at, reference, said, speaks_of}, Whole.{CheckedRun, Erase, bounds, one_thread, place_after}, declared.code.Code.Code, declared.code.Function.{Function as Row}, declared.code.GlobalCells.GlobalCells, declared.code.Parameter.Parameter, declared.code.PlaceMode.PlaceMode, declared.code.PlaceMode.TheVariants.{Dynamic, LockedGlobal, LockedLoaded, LockedSibling, LockedThrough, Private, Racy}, declared.code.SourcePlace.SourcePlace, declared.code.Text.Text, declared.instr.Cell.Cell, declared.instr.Cell.TheVariants.{GlobalAt, Object as InObject, ObjectAt}, declared.instr.Instr.Instr, declared.instr.Instr.TheVariants.{Call, ChkLock, ChkLockLoaded, ChkRead, ChkWrite, CondWait, Exchange, Exit, Free, Load, LoadRef, Lower, MoveReference, RaiseLoaded, Start, Store, TakeCell, TestSole}, declared.instr.Operator.Operator, declared.instr.Register.Register, declared.instr.Width.Width, declared.instr.Width.TheVariants.Int, declared.shape.Shape.Shape, declared.state.Stage.Stage, declared.state.Stage.TheVariants.{Empties, Enters, FreeClears, FreeLooks, Links, Lowers, Rests, Uncounts}, declared.state.Stop.Stop, declared.state.Stop.TheVariants.{Conflict, NoLock, NotSole, Trap as Trapped}, declared.state.TheConstants.FRAMES, declared.state.TurnState.TurnState, declared.state.TurnState.TheVariants.{Ended, Runs, Stopped}}
-pub use Rattle.sharc_flat.specs.{Correct.{AsksTheSame, MayStart, SameAs}, Flattened.{Around, arguments_code, around_body, behind_first, behind_statement, behind_statements, binary_code, called_code, cast_code, choice_code, compare_code, condition_code, constant_code, declared_lvalue, differ_code, drop_code, either_code, elements_code, expression_code, field_code, first_code, flattened, function_code, functions_code, if_code, in_function, initial_code, ints_of, is_ref, jump_code, local_code, logical_code, loop_code, looping, lvalue_code, lvalue_in, named_code, opened, parameter_of, passed_code, place_call_code, place_code, refs_of, result_code, return_code, right_code, rows_of, simple_code, spawn_code, statement_code, statements_code, step_code, target_of, test_code, truth_code, turn_code, unary_code, unary_place_code, unlocked_code, value_call_code, wait_code, what_names, with_variable, zero_code}, Flattens.{Flattens, IsMainOf, names_of}, Laid.{AreLaid, AreNamed, told_by, with_texts}, Machine.{At, Caller, Came, Flat, accessed, accesses, asks, asserts, cell_mode_of, end_turn, exec, first_at, first_cell, goes, goes_on, halts, handed, indexed, line_turn, lock_is_null, on_turn, op_turn, over_lines, put, set_int, set_ref, start, stops, take_kind_of, takes_local, turn, with_event, with_result, without_base}, Made.flat_of, Path.{IsPath, asked, at_after}, Places.{Target, base_width, bounds_code, cell_store_code, cell_take_code, cell_value_code, copy_code, drop_base, global_of, guard_code, has_base, index_code, index_width, own_field, pointee_code, settle_base, settle_code, store_code, take_code, target, value_code, width_code}, Scope.{Context, at_site, ends_from, leaves, pops}, Tables.globals_of, declared.flat.Flat.{Flat as FlatCode}, declared.op.Op.Op, declared.op.Spot.Spot, declared.slot.Lvalue.Lvalue, declared.slot.Slot.Slot}
-pub use Rattle.sharc_guard.specs.{Correct.Resolved, Counted.{AreLowered, GuardedCounts, Guards, HasCome as Comes, Held, IsAccess, IsGivenAway, IsOf, IsReleased, IsReplaced, IsSettling, IsUnder, LocksStand, OnWay, Quietly, Tells}, Form.IsGuarded, Guard.{check_under, compute, entered_at, expand, expanded, guarded, negate, place, source_of}, Known.dropped, Level.IsLevel, Logged.LogsAreHeld, Machine.{Accesses, Check, IsSole, Locks, Program, Thread, is_held, source_at, statement_at}, Made.IsMade, Path.{started, thread_after}, declared.guarded.Guarded.Guarded}
+pub use Rattle.sharc_flat.specs.{Correct.{AsksTheSame, MayStart, SameAs}, Flattened.{Around, arguments_code, around_body, behind_first, behind_statement, behind_statements, binary_code, called_code, cast_code, choice_code, compare_code, condition_code, constant_code, declared_lvalue, differ_code, drop_code, either_code, elements_code, expression_code, field_code, first_code, flattened, function_code, functions_code, if_code, in_function, initial_code, ints_of, is_ref, jump_code, local_code, logical_code, loop_code, looping, lvalue_code, lvalue_in, named_code, opened, parameter_of, passed_code, place_call_code, place_code, refs_of, result_code, return_code, right_code, rows_of, simple_code, spawn_code, statement_code, statements_code, step_code, target_of, test_code, truth_code, turn_code, unary_code, unary_place_code, unlocked_code, value_call_code, wait_code, what_names, with_variable, zero_code}, Flattens.{Flattens, IsMainOf, names_of}, Machine.{At, Caller, Came, Flat, accessed, accesses, asks, asserts, cell_mode_of, end_turn, exec, first_at, first_cell, goes, goes_on, halts, handed, indexed, line_turn, lock_is_null, on_turn, op_turn, over_lines, put, set_int, set_ref, start, stops, take_kind_of, takes_local, turn, with_event, with_result, without_base}, Made.flat_of, Path.{IsPath, asked, at_after}, Places.{Target, base_width, bounds_code, cell_store_code, cell_take_code, cell_value_code, copy_code, drop_base, global_of, guard_code, has_base, index_code, index_width, own_field, pointee_code, settle_base, settle_code, store_code, take_code, target, value_code, width_code}, Scope.{Context, at_site, ends_from, leaves, pops}, Tables.globals_of, declared.flat.{Flat.Flat as FlatCode, LineTexts.LineTexts}, declared.op.Op.Op, declared.op.Spot.Spot, declared.slot.Lvalue.Lvalue, declared.slot.Slot.Slot}
+pub use Rattle.sharc_guard.specs.{Correct.Resolved, Counted.{AreLowered, GuardedCounts, Guards, HasCome as Comes, Held, IsAccess, IsGivenAway, IsOf, IsReleased, IsReplaced, IsSettling, IsUnder, LocksStand, OnWay, Quietly, Tells}, Form.IsGuarded, Guard.{check_under, compute, entered_at, expand, expanded, guarded, negate, place, sites_of, source_of, with_texts}, Known.dropped, Level.IsLevel, Logged.LogsAreHeld, Machine.{Accesses, Check, IsSole, Locks, Program, Thread, is_held, source_at, statement_at}, Made.IsMade, Path.{started, thread_after}, declared.guarded.Guarded.Guarded}
 pub use Rattle.sharc_compile.specs.{Consistent.{Elements, IsConsistent, IsNumber, said_in, said_now}, Correct.{HasCome, IsBeginning, begins}, Generated.{IsGenerated, generated, instr_of, program_of}, Lowered.lowered_in, Made.IsCodeOf, OfRuns.{RunsHavePaths, elements_before, founds_of, told_in}, Refused.{IsRefused, IsReport, WantsRefused, site_of}, Related.{ChecksNext, IsAt, IsAtStage, IsInFree, IsLinking, IsOver, IsReference, Refuses, Same, StopsAt}}
 pub use Rattle.sharc_invariant.specs.{Granules.{one, sum_to}, Labels.{Closed, Gate, Label, Labels, LessGate, Loaded}, Laws.{RunsFromTheBeginning, RunsStand}, MachineInvariant.{IsAlone, MachineInvariant, WindowStands, cell_refers, cells_now, hand_refers, is_pointer_now, label_of, log_refers, references_to, register_refers}, Objects.objects_after, Opened.{first_place, first_world}, Reports.RunsTest, State.{IsSmall, label_now, number_in, object_of_cell}, Typed.{Fine, Initial, IsWellTyped}, Types.{Content, Pointer, Targets, cells_of, global_field}, Words.{argument_of, is_freed, register_of, staged_of}, World.{ArgumentOf, In, LogOf, ObjectState, RegisterOf, Staged, World}}
 pub use Rattle.sharc_accepted_laws.specs.{Pointers.{GlobalsPoint, IsPointerInTable, PointersAreOfGlobals}, TargetLaws.HasTables, Targets.targets_of}
 pub use Rattle.sharc_history_laws.specs.{Followed.{ChecksAreFollowed, IsFollowed, IsLocked}, History.history_of, Kept.{GlobalPointersAreKept, Grows, MadePointersAreKept, OthersAreInitial}, Made.PointersAreMade, Paths.PathsAreConsistent, Reports.{CastReportsShow, FindsOthers, InArgument, InCell, InHand, InLog, InRegister, OtherReference}, Seen.{IsGivenTo, RunsBegin}, SeenCells.{CellsAreSeen, IsBeingFreed, is_clearing}, Starts.{IsOfMain, IsSpawnedByCode, IsStartedBy}, Stores.BeginsWith}
 pub use Rattle.sharc_compile_laws.specs.{Started.HasThread, Threads.TellsIn}
-pub use Rattle.sharc_wants_laws.specs.{Alone.{Passes, objects_there, tested_object}, Cause.{NothingIsInFlight, ShowsReference}, Cells.{CellsSee, IsSeenInCell, in_freed, in_global, in_made}, Elsewhere.{ArgumentsSee, LogsSee}, Emptying.{IsEmptying, is_emptying}, Freeing.{EmptiersTookLast, IsBeingTaken, LastTakersFree, TakenAreBeingTaken, TakesLast}, Hands.{FreesEmpty, HandsFly}, Held.{HeldAreHeldOn, released, releases}, Holding.{IsAccounted, IsHolding, IsHoldingIn, IsHoldingThere, IsLowered, IsTested, PathsHold, lowered_of}, InFlight.{IsInFlight, IsPastEvents, is_emptied, is_given, is_replaced}, Only.{ArgumentsHoldNone, CellsHoldNone, FreedAreTaken, MutexesHoldNone, ThreadsHoldNone}, Registered.{HoldsRegistered, IsLoadedHere, IsPlaceOf, IsRegistered}, Seeing.{CastersHold, TestersGive, ThreadsSee}, Silent.{HasNothing, SilentHaveNothing}, Sole.{AreQuiet, HaveBegun, IsSeen, NoneIsInFlight, RegistersAreSeen}, Waits.CodeWaits, Wants.{IsNotThere, IsThere, IsThereIn, IsWhere, PathsWant, StopsOrWantsUnder, WantsAccess, WantsAct, WantsBy, access_at, access_tested}, Beginning.{BeginsByRight, ThreadsHaveBegun}}
+pub use Rattle.sharc_wants_laws.specs.{Alone.{Passes, objects_there, tested_object}, Cause.{NothingIsInFlight, ShowsReference}, Cells.{CellsSee, IsSeenInCell, in_freed, in_global, in_made}, Elsewhere.{ArgumentsSee, LogsSee}, Emptying.{IsEmptying, is_emptying}, Freeing.{EmptiersTookLast, IsBeingTaken, LastTakersFree, TakenAreBeingTaken, TakesLast}, Hands.{FreesEmpty, HandsFly}, Held.{HeldAreHeldOn, released, releases}, Holding.{IsAccounted, IsHolding, IsHoldingIn, IsHoldingThere, IsLowered, IsTested, PathsHold, lowered_of}, InFlight.{IsInFlight, IsPastEvents, is_emptied, is_given, is_replaced}, Only.{ArgumentsHoldNone, CellsHoldNone, FreedAreTaken, MutexesHoldNone, ThreadsHoldNone}, Registered.{HoldsRegistered, IsLoadedHere, IsPlaceOf, IsRegistered}, Seeing.{CastersHold, TestersGive, ThreadsSee}, Silent.{HasNothing, SilentHaveNothing}, Sole.{AreQuiet, HaveBegun, IsSeen, NoneIsInFlight, RegistersAreSeen}, Waits.CodeWaits, Wants.{BeginsWithStarted, BeginsWithStartedIn, IsNotThere, IsThere, IsThereIn, IsWhere, PathsWant, StopsOrWantsUnder, WantsAccess, WantsAct, WantsBy, access_at, access_tested}, Beginning.{BeginsByRight, ThreadsHaveBegun}}

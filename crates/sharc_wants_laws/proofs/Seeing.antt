@@ -60,7 +60,7 @@ module _ (m : Assignment) (names : NameThemselves m.typed) (code : Code) (R : Li
       let function : t.function ≡ b.own.function = same_function m.typed names t.function b.own.function b.own.begins.site (subst (λ (e : SourceEvent). IsNamedAt (function_at m.typed t.function) e.site) begins t.site) b.own.site in
       subst (λ f. IsHolding m code f b.own.argument thread (events_of thread b.own.after) at lowered) function
       (subst (λ v. IsHolding m code t.function v thread (events_of thread b.own.after) at lowered) argument
-      (subst (λ es. IsHolding m code t.function t.argument thread es at lowered) after (h.holds (subst (MayStart m) (sym function) may))))
+      (subst (λ es. IsHolding m code t.function t.argument thread es at lowered) after (h.stands (subst (MayStart m) (sym function) may))))
 
   -- where it wants something more fuel changes nothing
   wants_still : AskLaws → (fuel more : ℕ) (e : SourceEvent) → (asked_with b fuel).outcome ≡ wants e → asked_with b (fuel + more) ≡ asked_with b fuel

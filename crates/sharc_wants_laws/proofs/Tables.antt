@@ -3,7 +3,7 @@ use Rattle.sharc_wants_laws.proofs.Imports.{ap, ◌∙◌, Assignment, Code, Fla
 
 pub has_tables : (m : Assignment) (flat : FlatCode) → Flattens m flat → (code : Code) → IsCodeOf flat code → HasTables m code
 has_tables m flat made code is = record {
-  globals = ap (λ v. v.items) (is.generated.globals ∙ is.made.globals) ∙ made.lays.globals;
+  globals = ap (λ v. v.items) (is.generated.globals ∙ is.made.globals) ∙ made.globals;
   granules = is.generated.granules ∙ is.made.granules ∙ made.granules;
   initial = ap (λ v. v.items) (is.generated.initial ∙ is.made.initial) ∙ made.initial;
   layouts = ap (λ v. v.items) (is.generated.layouts ∙ is.made.layouts) ∙ made.layouts;

@@ -1,9 +1,9 @@
 -- From the place of a thread of code to what the program wants.
-use Rattle.sharc_wants_laws.proofs.{Imports.{◌≡◌, ℕ, suc, ℤ, pos, inl, inr, ⊎_elim, Bool, true, false, List, [], map, refl, sym, ap, ◌∙◌, Some, subst, IsSomeAnd, get_or as slice_index_or, Act, CellAt, CellMode, SourceEvent, Site, Taken, Assignment, Access, access_by, held_mutexes, is_null, number_of, Outcome, wants, ended, stopped, event_of, Code, Row as Function, SourcePlace, Cell, Instr, CondWait, Load, Store, LoadRef, Exchange, TakeCell, ChkRead, ChkWrite, ChkLock, ChkLockLoaded, Shape, Runs, Stopped, Ended, Stop, Conflict, NoLock, NotSole, Trapped as Trap, Machine, instr_at, kind_of, made_cell, place_at, no_place, Flat, At, asks, halts, turn, on_turn, exec, MayStart, Program, Thread, Check, Accesses, Locks, IsSole, is_held, source_at, statement_at, IsAccess, IsOf, IsUnder, Tells, LogsAreHeld, Elements, begins, instr_of, IsAt, IsLinking, IsOver, Same, StopsAt, ChecksNext, IsRefused, IsReport, site_of, WantsAct, WantsAccess, WantsBy, StopsOrWantsUnder, IsWhere, IsThere, access_at, access_tested, int}, Coming.{Coming, asked_events, comes, instr_is, is_named, rest, there, told, with_some}, Cells.{int_is, cell_is, access_is, pending_number}}
+use Rattle.sharc_wants_laws.proofs.{Imports.{◌≡◌, ℕ, suc, ℤ, pos, inl, inr, ⊎_elim, Bool, true, false, List, [], map, refl, sym, ap, ◌∙◌, Some, subst, IsSomeAnd, get_or as slice_index_or, Act, CellAt, CellMode, SourceEvent, Site, Taken, Assignment, Access, access_by, held_mutexes, is_null, number_of, Outcome, wants, ended, stopped, event_of, Code, Row as Function, SourcePlace, Cell, Instr, CondWait, Load, Store, LoadRef, Exchange, TakeCell, ChkRead, ChkWrite, ChkLock, ChkLockLoaded, Shape, Runs, Stopped, Ended, Stop, Conflict, NoLock, NotSole, Trapped as Trap, Machine, instr_at, kind_of, made_cell, place_at, no_place, Flat, At, asks, halts, turn, on_turn, exec, MayStart, Program, Thread, Check, Accesses, Locks, IsSole, is_held, source_at, statement_at, IsAccess, IsOf, IsUnder, Tells, LogsAreHeld, Elements, instr_of, IsAt, IsLinking, IsOver, Same, StopsAt, ChecksNext, IsRefused, IsReport, site_of, WantsAct, WantsAccess, WantsBy, StopsOrWantsUnder, IsWhere, IsThere, access_at, access_tested, int}, Coming.{Coming, asked_events, begun_with, comes, instr_is, rest, there, told, with_some}, Cells.{int_is, cell_is, access_is, pending_number}}
 use Rattle.sharc_tree.specs.declared.trap.Trap.TheVariants as traps
 use Rattle.sharc_heap.specs.declared.shadow_word.Kind.{Kind}
 use Rattle.sharc_code.specs.{declared.instr.Instr.TheVariants.{Lock, Join}, Says.cell_at}
-use Rattle.sharc_flat.specs.{Machine.{Turn}}
+use Rattle.sharc_flat.specs.{Machine.Turn}
 use Rattle.sharc_guard.specs.Machine as Form
 use Rattle.sharc_compile.specs.Correct.{by}
 
@@ -160,15 +160,4 @@ module _ (logs : LogsAreHeld) {m : Assignment} {code : Code} {s : Shape} {T : El
       }
 
   pub is_there : IsThere m code thread at said
-  is_there = record {
-    function = w.has.function;
-    argument = w.has.argument;
-    begins = by thread (begins w.p w.has.function w.has.argument);
-    after = a.events;
-    starts = w.has.events;
-    own = refl;
-    act = refl;
-    answer = refl;
-    site = is_named w;
-    stands = where_by;
-  }
+  is_there = begun_with w (λ f argument told. IsWhere m code thread f argument told at) where_by

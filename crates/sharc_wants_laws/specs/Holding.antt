@@ -2,24 +2,21 @@
 -- events.
 use Rattle.std.specs.Prelude.{ℕ, ℤ, pos, ◌≡◌, ◌+◌, ◌⊎◌, ◌<◌, true, List, [], ◌∷◌, ◌++◌, map, get_or, reverse}
 use Rattle.std.specs.Prelude.{slice_index}
-use Rattle.sharc_tree.specs.{declared.event.Act.TheVariants.Started, declared.event.CellAt.CellAt}
+use Rattle.sharc_tree.specs.declared.event.CellAt.{CellAt}
 use Rattle.sharc_tree.specs.declared.event.SourceEvent.{SourceEvent}
-use Rattle.sharc_ctype.specs.Resolved.{function_at}
 use Rattle.sharc_mode.specs.Moded.{Assignment}
 use Rattle.sharc_meaning.specs.{declared.given.GivenUp.GivenUp, declared.given.GivenUp.TheVariants.Replaced}
 use Rattle.sharc_meaning.specs.{Events.events_of, Meaning.{Asked, asks}, Reference.number_of, References.refers}
-use Rattle.sharc_meaning.specs.{Runs.{IsNamedAt, answers_of, by}, State.wants}
+use Rattle.sharc_meaning.specs.{Runs.{answers_of, by}, State.wants}
 use Rattle.sharc_code.specs.{declared.code.Code.Code, declared.instr.Instr.TheVariants.{Lower, TestSole}}
 use Rattle.sharc_code.specs.{declared.shape.Shape.Shape, Machine.{Machine, instr_at, ref}, Paced.paced_in}
 use Rattle.sharc_code.specs.{Path.{begun, machine_after, CodePath}, Runs.{Turn, turns_of}}
 use Rattle.sharc_code.specs.Whole.{CheckedRun, Erase, place_after}
-use Rattle.sharc_flat.specs.Correct.{MayStart}
 use Rattle.sharc_compile.specs.{Consistent.{Elements, said_in, IsConsistent}, Correct.IsBeginning, Lowered.lowered_in}
 use Rattle.sharc_compile.specs.{OfRuns.{elements_before, founds_of, told_in}}
 use Rattle.sharc_invariant.specs.Words.{register_of}
 use Rattle.sharc_guard.specs.{Correct.Resolved, Counted.{IsGivenAway, IsReleased}}
-use Rattle.sharc_compile_laws.specs.Threads.{TellsIn}
-use Rattle.sharc_wants_laws.specs.Emptying.{IsEmptying, is_emptying}
+use Rattle.sharc_wants_laws.specs.{Emptying.{IsEmptying, is_emptying}, Wants.{BeginsWithStarted, BeginsWithStartedIn}}
 
 -- ---- what a register has
 -- the program holds a reference to the object of this number
@@ -82,20 +79,10 @@ pub record IsHolding (m : Assignment) (code : Code) (f : ℕ) (argument : ℤ) (
       → IsTested (asks m f argument (answers_of told) fuel) at register
   pub emptying : is_emptying at.own.stage ≡ true → IsEmptying code (asks m f argument (answers_of told) fuel) at
 
--- the thread begins with the Started of a function, at the name of that, and then holds what the function does, if that
--- may be started
-pub record IsHoldingThere (m : Assignment) (code : Code) (thread : ℕ) (at : Machine) (said : List SourceEvent)
-    (lowered : List ℕ) : Type 0 where
-  pub function : ℕ
-  pub argument : ℤ
-  pub begins : SourceEvent
-  pub after : List SourceEvent
-  pub starts : said ≡ begins ∷ map (by thread) after
-  pub own : begins.thread ≡ thread
-  pub act : begins.act ≡ Started argument
-  pub answer : begins.answer ≡ pos 0
-  pub site : IsNamedAt (function_at m.typed function) begins.site
-  pub holds : MayStart m function → IsHolding m code function argument thread (map (by thread) after) at lowered
+-- the thread begins with the Started of a function, and then holds what the function does
+abbrev pub IsHoldingThere : Assignment → Code → (thread : ℕ) → Machine → (said : List SourceEvent) → List ℕ → Type 0
+IsHoldingThere m code thread at said lowered =
+    BeginsWithStarted m thread said (λ f argument told. IsHolding m code f argument thread told at lowered)
 
 -- so it is of each path whose results are consistent, once it has begun
 abbrev pub PathsHold : Assignment → Code → Type 0
@@ -113,11 +100,9 @@ abbrev pub lowered_of : Code → Shape → List Turn → ℕ → List ℕ
 lowered_of code s run thread =
     lowered_in code s (begun code s thread) (elements_before code s thread run) (founds_of (turns_of thread run))
 
-pub record IsHoldingIn (m : Assignment) (code : Code) (R : List SourceEvent) (thread : ℕ) (at : Machine)
-    (lowered : List ℕ) : Type 0 where
-  pub tells : TellsIn m R thread
-  pub holds : MayStart m tells.function
-      → IsHolding m code tells.function tells.argument thread (events_of thread tells.after) at lowered
+abbrev pub IsHoldingIn : Assignment → Code → List SourceEvent → (thread : ℕ) → Machine → (lowered : List ℕ) → Type 0
+IsHoldingIn m code R thread at lowered =
+    BeginsWithStartedIn m R thread (λ f argument told. IsHolding m code f argument thread told at lowered)
 
 -- of each thread of a checked run, by threads in any order, where the results of the paths of all are consistent
 abbrev pub ThreadsHold : Assignment → Code → Type 0

@@ -82,9 +82,10 @@ pub record IsWhere (m : Assignment) (code : Code) (thread f : ℕ) (argument : �
   pub refused : WantsRefused code at (asks m f argument (answers_of told) fuel)
   pub gone : at.at.state ≡ Ended → (asks m f argument (answers_of told) fuel).outcome ≡ ended
 
--- the thread begins with the Started of a function, at the name of that, and then is where the function is, if that may
--- be started
-pub record IsThere (m : Assignment) (code : Code) (thread : ℕ) (at : Machine) (said : List SourceEvent) : Type 0 where
+-- The thread begins with the Started of a function, at the name of that; and then this holds of the function, of its
+-- argument and of the events after, if the function may be started.
+pub record BeginsWithStarted (m : Assignment) (thread : ℕ) (said : List SourceEvent)
+    (Then : ℕ → ℤ → List SourceEvent → Type 0) : Type 0 where
   pub function : ℕ
   pub argument : ℤ
   pub begins : SourceEvent
@@ -94,7 +95,12 @@ pub record IsThere (m : Assignment) (code : Code) (thread : ℕ) (at : Machine) 
   pub act : begins.act ≡ acts.Started argument
   pub answer : begins.answer ≡ pos 0
   pub site : IsNamedAt (function_at m.typed function) begins.site
-  pub stands : MayStart m function → IsWhere m code thread function argument (map (by thread) after) at
+  pub stands : MayStart m function → Then function argument (map (by thread) after)
+
+-- and then is where the function is
+abbrev pub IsThere : Assignment → Code → (thread : ℕ) → Machine → (said : List SourceEvent) → Type 0
+IsThere m code thread at said =
+    BeginsWithStarted m thread said (λ f argument told. IsWhere m code thread f argument told at)
 
 -- so it is of each path whose results are consistent, once it has begun
 abbrev pub PathsWant : Assignment → Code → Type 0
@@ -106,11 +112,16 @@ PathsWant m code = (s : Shape) (thread : ℕ) (elements : ℕ → Elements) (fou
     IsBeginning at said paced ⊎ IsThere m code thread at said
 
 -- ---- by the place of a run
--- the thread is where the source is that has asked for its events of this history
-pub record IsThereIn (m : Assignment) (code : Code) (R : History) (thread : ℕ) (at : Machine) : Type 0 where
+-- so it is of a thread of this history
+pub record BeginsWithStartedIn (m : Assignment) (R : History) (thread : ℕ) (Then : ℕ → ℤ → List SourceEvent → Type 0)
+    : Type 0 where
   pub tells : TellsIn m R thread
-  pub stands : MayStart m tells.function
-      → IsWhere m code thread tells.function tells.argument (events_of thread tells.after) at
+  pub stands : MayStart m tells.function → Then tells.function tells.argument (events_of thread tells.after)
+
+-- the thread is where the source is that has asked for its events of this history
+abbrev pub IsThereIn : Assignment → Code → History → (thread : ℕ) → Machine → Type 0
+IsThereIn m code R thread at =
+    BeginsWithStartedIn m R thread (λ f argument told. IsWhere m code thread f argument told at)
 
 -- it has no event and is at the code's first instruction
 pub record IsNotThere (R : History) (thread : ℕ) (at : Machine) : Type 0 where

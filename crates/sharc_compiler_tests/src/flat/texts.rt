@@ -2,23 +2,22 @@
 
 use crate::flat::sources::flat;
 use sharc_code::Text;
-use sharc_flat::{Flat, Op, Spot};
+use sharc_flat::{Flat, Op};
 use std::alloc::{AllocError, Global};
 use std::process::Abort;
 use std::test::Fail;
 
-/// What an access is in the source.
-fn access(op: Op) -> Option<Spot> {
-    match op {
-        Op::Load(_, _, spot)
-        | Op::Store(_, _, spot)
-        | Op::LoadRef(_, _, spot)
-        | Op::StoreRef(_, _, spot)
-        | Op::LoadGuard(_, spot)
-        | Op::TakeCell(_, _, spot)
-        | Op::TakeLocal(_, _, spot) => Some(spot),
-        _ => None,
-    }
+fn is_access(op: Op) -> bool {
+    matches!(
+        op,
+        Op::Load(_, _, _)
+            | Op::Store(_, _, _)
+            | Op::LoadRef(_, _, _)
+            | Op::StoreRef(_, _, _)
+            | Op::LoadGuard(_, _)
+            | Op::TakeCell(_, _, _)
+            | Op::TakeLocal(_, _, _)
+    )
 }
 
 fn add_text(flat: &Flat, place: Text, text: &mut Vec<u8>) -> Result<(), AllocError> {
@@ -33,11 +32,11 @@ fn add_text(flat: &Flat, place: Text, text: &mut Vec<u8>) -> Result<(), AllocErr
 /// All accesses: the lvalue, a colon, the lock, and `;`.
 fn accesses(alloc: Global, flat: &Flat) -> Result<Vec<u8>, AllocError> {
     let mut text = Vec::new(alloc);
-    for op in &flat.lines {
-        if let Some(spot) = access(*op) {
-            add_text(flat, spot.lvalue, &mut text)?;
+    for (op, told) in flat.lines.iter().zip(&flat.told) {
+        if is_access(*op) {
+            add_text(flat, told.lvalue, &mut text)?;
             text.push(b':')?;
-            add_text(flat, spot.lock_text, &mut text)?;
+            add_text(flat, told.lock, &mut text)?;
             text.push(b';')?;
         }
     }

@@ -1,21 +1,16 @@
-use Rattle.sharc_check.proofs.{Imports.{◌+◌, ◌≤◌, ◌++◌, length, ap, ◌∙◌, arith, position_count, modes_of, view_row, view_sharing, names_in, names_in_all}, RowLemmas.{step_row, step_ends, said_one}}
+use Rattle.sharc_check.proofs.{Imports.{◌++◌, ap, ◌∙◌, modes_of, view_row, view_sharing, names_in, names_in_all}, RowLemmas.{step_on, said_one}}
 use Rattle.sharc_check.proofs.rules.names_in_row.Goals as goal
 
 pub loop-left-preserved : goal.loop-left-preserved
 loop-left-preserved c =
     let m = c.args.program.now in
-    let laws = c.row_laws.ensures in
-    let limit = position_count m.typed in
-    let whole = c.position_count-all.ensures.whole.modes in
     let row = view_row c.loop-left.left in
     let next = view_row c.deeper-left.result in
     let s = view_sharing c.pointed.result in
-    let ends = c.loop-left.invariant.ends in
-    let ends_row : row.first + row.count ≤ length m.modes = omega (arith, ends, whole) in
-    let step = step_row laws m row next s c.loop-left-test.true ends_row c.pointed.ensures c.deeper-left.ensures in
+    let step = step_on c.row_laws.ensures m row next s c.position_count-all.ensures.whole.modes c.loop-left-test.true c.loop-left.invariant.ends c.pointed.ensures c.deeper-left.ensures in
     let f = names_in m.typed in
     record {
-      ends = step_ends laws limit row next ends c.deeper-left.ensures;
-      said = said_one f (modes_of m row) (modes_of m next) s c.loop-left.notes.items c.name_in.new.notes.items (c.args.notes.now.items ++ names_in_all m.typed (modes_of m (view_row c.args.row))) step
+      ends = step.0;
+      said = said_one f (modes_of m row) (modes_of m next) s c.loop-left.notes.items c.name_in.new.notes.items (c.args.notes.now.items ++ names_in_all m.typed (modes_of m (view_row c.args.row))) step.1
           (c.in_ok-name_in.ensures ∙ ap (λ r. c.loop-left.notes.items ++ names_in r s) c.typed-typed.ensures) c.loop-left.invariant.said;
     }

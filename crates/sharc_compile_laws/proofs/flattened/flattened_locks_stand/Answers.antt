@@ -1,5 +1,5 @@
-use Rattle.sharc_compile_laws.proofs.Laid as laid
+use Rattle.sharc_compile_laws.proofs.Traced.{stand, flattened_is_traced}
 use Rattle.sharc_compile_laws.proofs.flattened.flattened_locks_stand.Goals as goal
 
 pub returns : goal.returns
-returns c = laid.flattened_locks_stand
+returns c = λ m flat is. stand flat (flattened_is_traced m flat is)

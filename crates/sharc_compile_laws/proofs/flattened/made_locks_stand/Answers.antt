@@ -1,5 +1,5 @@
-use Rattle.sharc_compile_laws.proofs.Laid as laid
+use Rattle.sharc_compile_laws.proofs.Imports.{flat_of}
 use Rattle.sharc_compile_laws.proofs.flattened.made_locks_stand.Goals as goal
 
 pub returns : goal.returns
-returns c = laid.made_locks_stand
+returns c = λ m code is. c.flattened_locks_stand.ensures m (flat_of code) (c.made_is_flattened.ensures m code is)

@@ -1,4 +1,4 @@
-use Rattle.sharc_parse.proofs.{Imports.{◌≡◌, ◌+◌, sym, ap, ◌∙◌, subst, arith, ◌∷◌, [], rules, Result, Ok, mark, name, access_mark, Want, Have, Called, At, right_of, reads_within, site_in, size, front_size, bare, phrase_of, phrases_of, ReadingFault, ParsedExpr, ParsedFront as Front, from, Builds, IsPlaced, bare_front, front_tree, view_expr}, Steps.{longer, last_argument, next_argument, binary_read, binary_stands, field_stands, field_goes, access_goes, front_placed}}
+use Rattle.sharc_parse.proofs.{Imports.{◌≡◌, ◌+◌, sym, ap, ◌∙◌, subst, arith, ◌∷◌, [], rules, Result, Ok, mark, name, access_mark, Want, Have, At, reads_within, site_in, size, front_size, bare, phrase_of, phrases_of, ReadingFault, ParsedExpr, ParsedFront as Front, from, Builds, IsPlaced, bare_front, front_tree, view_expr}, Steps.{longer, last_argument, next_argument, binary_read, binary_stands, field_stands, field_goes, access_goes, front_placed}}
 use Rattle.sharc_parse.specs.Machine as machine
 use Rattle.sharc_parse.specs.Limits as Limits
 use Rattle.sharc_parse.proofs.expr.+expr.Goals as goal

@@ -95,6 +95,6 @@ statements-loop-alloc-preserved t c =
       so_far = one_statement_more c.args.room c.args.tokens.now c.args.at.now c.loop-alloc.at c.statement.new.at c.loop-alloc.list.items c.push.new.self.items c.in_ok-statement.statement c.in_ok-push.ensures.items c.loop-alloc.invariant.so_far reads
           (subst (λ i. view_stmt c.in_ok-statement.statement ≡ statement_at (site_in c.args.tokens.now) i (sentence_of c.in_ok-statement.statement)) stays s.placed.0)
           (omega (arith, s.placed.1, stays));
-      onward = omega (arith, c.loop-alloc.invariant.onward, stays, s.onward);
-      within = s.within;
+      onward = omega (arith, c.loop-alloc.invariant.onward, stays, s.onward.onward);
+      within = s.onward.within;
     }

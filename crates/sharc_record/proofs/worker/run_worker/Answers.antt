@@ -7,7 +7,7 @@ run_at-requires-clause-may g c =
     let low : c.loop-n.n < length items = omega (arith, c.loop-n-test.true, c.len-n-end.ensures, c.loop-n.invariant.count) in
     let here : c.take-hand.result ≡ get_or c.args.worker.now.hands.items c.loop-n.n None =
     c.take-hand.ensures.value ∙ c.index_mut.ensures.value ∙ any_default items c.loop-n.n c.index_mut.result.now None low ∙ c.loop-n.invariant.left c.loop-n.n (omega arith) in
-    subst (MayRunAt c.args.code.now c.args.shape.now c.args.limit c.args.shared.now) (sym here) (c.requires.may c.loop-n.n)
+    subst (MayRunAt c.args.lent.now.code.now c.args.lent.now.shape.now c.args.lent.now.limit c.args.lent.now.shared.now) (sym here) (c.requires.may c.loop-n.n)
 
 pub loop-n-preserved : goal.loop-n-preserved
 loop-n-preserved g c =
@@ -15,7 +15,7 @@ loop-n-preserved g c =
     let items = c.loop-n.worker.hands.items in
     let n = c.loop-n.n in
     let x = c.run_at.result in
-    let P = HasRunAt c.args.code.now c.args.shape.now c.args.limit in
+    let P = HasRunAt c.args.lent.now.code.now c.args.lent.now.shape.now c.args.lent.now.limit in
     let low : n < length items = omega (arith, c.loop-n-test.true, c.len-n-end.ensures, c.loop-n.invariant.count) in
     let here : c.take-hand.result ≡ get_or first n None =
     c.take-hand.ensures.value ∙ c.index_mut.ensures.value ∙ any_default items n c.index_mut.result.now None low ∙ c.loop-n.invariant.left n (omega arith) in

@@ -1,4 +1,4 @@
-use Rattle.sharc_wants_laws.proofs.{Imports.{⊎_elim, subst, sym, reverse, begun, machine_after, turns_of, Erase, said_in, elements_before, founds_of, told_in, HoldsRegistered}, Coming.paths_come, Keeping.{not_silent, registered}, SoleTelling.{events_are, place_is}}
+use Rattle.sharc_wants_laws.proofs.{Imports.{⊎_elim, subst, sym, reverse, begun, machine_after, turns_of, Erase, said_in, elements_before, founds_of, told_in, HoldsRegistered}, Coming.paths_come, Keeping.{not_silent, registered}, SoleTelling.events_are}
 use Rattle.sharc_wants_laws.proofs.sole.held_registered.Goals as goal
 
 pub returns : goal.returns
@@ -11,7 +11,7 @@ returns c = λ m p flat flattens fits code is s run checked consistent thread b 
     let at = machine_after code s (begun code s thread) founds in
     let said = said_in code s (begun code s thread) elements founds in
     let events = events_are c.own_are_told.ensures c.run_paths_law.ensures m code holds s run checked consistent thread in
-    subst (λ at. HoldsRegistered code at b) (sym (place_is c.own_are_told.ensures c.run_paths_law.ensures m code holds s run checked consistent thread))
+    subst (λ at. HoldsRegistered code at b) (sym (c.run_paths_law.ensures code s thread run checked).machine)
     (⊎_elim
     (λ h. absurd (not_silent m names code R thread at said events b may h.nothing))
     (λ w. registered m names code R thread at said events b may w)

@@ -13,15 +13,15 @@ loop-left-init g c =
     let made : first ≡ turns - (turns - first) = omega (arith, few) in
     record {
       few = omega arith;
-      may = may_rest c.args.code.now c.args.shape.now c.args.limit c.args.bus.now first turns c.args.self c.go-hand.result few c.requires.may went.ran went.room;
+      may = may_rest c.args.lent.now.code.now c.args.lent.now.shape.now c.args.lent.now.limit c.args.lent.now.shared.now first turns c.args.self c.go-hand.result few c.requires.may went.ran went.room;
       ran = went.ran;
       room = subst (λ k. KeepsRoom k c.args.self.seat c.go-hand.result.seat) made went.room;
     }
 
 pub loop-left-preserved : goal.loop-left-preserved
 loop-left-preserved g c =
-    let code = c.args.code.now in
-    let s = c.args.shape.now in
+    let code = c.args.lent.now.code.now in
+    let s = c.args.lent.now.shape.now in
     let turns = c.args.stint.turns in
     let left = c.loop-left.left in
     let hand = c.loop-left.hand in
@@ -32,9 +32,9 @@ loop-left-preserved g c =
     let few : further ≤ left = omega (arith, c.further-further.ensures) in
     record {
       few = omega (arith, kept.few);
-      may = may_rest code s c.args.limit c.args.bus.now further left hand new few kept.may went.ran went.room;
-      ran = has_both code s c.args.limit c.args.self hand new kept.ran went.ran;
-      room = room_both code s c.args.limit (turns - left) further (turns - (left - further)) c.args.self hand new (omega (arith, few, kept.few)) kept.ran kept.room went.room;
+      may = may_rest code s c.args.lent.now.limit c.args.lent.now.shared.now further left hand new few kept.may went.ran went.room;
+      ran = has_both code s c.args.lent.now.limit c.args.self hand new kept.ran went.ran;
+      room = room_both code s c.args.lent.now.limit (turns - left) further (turns - (left - further)) c.args.self hand new (omega (arith, few, kept.few)) kept.ran kept.room went.room;
     }
 
 pub returns-else-is_in_section-clause-room : goal.returns-else-is_in_section-clause-room

@@ -5,8 +5,8 @@ use Rattle.sharc_rounds.proofs.hand.Hand+BusSeat.run.Given as goal
 abbrev pub invariant-loop-left : goal.invariant-loop-left
 invariant-loop-left g l = record {
   few : l.left ≤ l.fn.stint.turns;
-  may : MayRun l.code l.shape l.limit l.bus l.left l.hand;
-  ran : HasRun l.code l.shape l.limit l.fn.self l.hand;
+  may : MayRun l.lent.code.now l.lent.shape.now l.lent.limit l.lent.shared.now l.left l.hand;
+  ran : HasRun l.lent.code.now l.lent.shape.now l.lent.limit l.fn.self l.hand;
   room : KeepsRoom (l.fn.stint.turns - l.left) l.fn.self.seat l.hand.seat;
 }
 

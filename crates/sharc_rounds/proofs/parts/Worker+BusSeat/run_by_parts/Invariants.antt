@@ -5,8 +5,8 @@ use Rattle.sharc_rounds.proofs.parts.Worker+BusSeat.run_by_parts.Given as goal
 
 abbrev pub invariant-parts : goal.invariant-parts
 invariant-parts g l = record {
-  may : MayAllRun l.code l.shape l.limit l.bus l.left l.self;
-  ran : (new : Worker SeatView) → HaveAllRun l.code l.shape l.limit l.self new → HaveAllRun l.code l.shape l.limit l.fn.self new;
+  may : MayAllRun l.lent.code.now l.lent.shape.now l.lent.limit l.lent.shared.now l.left l.self;
+  ran : (new : Worker SeatView) → HaveAllRun l.lent.code.now l.lent.shape.now l.lent.limit l.self new → HaveAllRun l.lent.code.now l.lent.shape.now l.lent.limit l.fn.self new;
   some : 0 < l.left;
   part : 0 < l.part;
 }

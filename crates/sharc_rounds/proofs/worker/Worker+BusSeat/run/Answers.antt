@@ -11,7 +11,7 @@ run_at-requires-clause-may g c =
     let low : c.loop-n.n < length items = omega (arith, c.loop-n-test.true, c.len-n-end.ensures, c.loop-n.invariant.count) in
     let here : c.index_mut.result.now ≡ get_or c.args.self.now.hands.items c.loop-n.n None =
     c.index_mut.ensures.value ∙ any_default items c.loop-n.n c.index_mut.result.now None low ∙ c.loop-n.invariant.left c.loop-n.n (omega arith) in
-    subst (MayRunAt c.args.code.now c.args.shape.now c.args.limit c.args.bus.now c.args.stint.turns) (sym here) (c.requires.may c.loop-n.n)
+    subst (MayRunAt c.args.lent.now.code.now c.args.lent.now.shape.now c.args.lent.now.limit c.args.lent.now.shared.now c.args.stint.turns) (sym here) (c.requires.may c.loop-n.n)
 
 pub loop-n-preserved : goal.loop-n-preserved
 loop-n-preserved g c =
@@ -19,7 +19,7 @@ loop-n-preserved g c =
     let items = c.loop-n.self.hands.items in
     let n = c.loop-n.n in
     let x = c.run_at.new.hand in
-    let P = HasRunAt c.args.code.now c.args.shape.now c.args.limit in
+    let P = HasRunAt c.args.lent.now.code.now c.args.lent.now.shape.now c.args.lent.now.limit in
     let K = KeepsRoomAt c.args.stint.turns in
     let low : n < length items = omega (arith, c.loop-n-test.true, c.len-n-end.ensures, c.loop-n.invariant.count) in
     let here : c.index_mut.result.now ≡ get_or first n None =
