@@ -1,5 +1,5 @@
 -- Only the last turn of a Clear leads to a place where it is known that an object was cleared.
-use Rattle.sharc_history_laws.proofs.{Imports.{◌≡◌, ℕ, zero, suc, ◌<◌, ◌≤◌, ◌⊎◌, inl, inr, Bool, true, false, length, List, [], ◌∷◌, if◌then◌else◌, refl, sym, ap, ◌∙◌, subst, ⊎_elim, arith, cases_lt, slice_index_or, Code, Parameter, Int, Instr, Shape, Stage, Rests, Enters, Machine, act, has_room, with_parameter, entered, start, function_of, place, instr_at, no_function, after, may_go, Gate, Closed, Checked, Holds, Loaded, HoldsLoaded, Sole, Label, Labels, Leads, LessGate, View, FramesStand, IsWellTyped, Fine, entry_label, Targets, yes}, Onward.{Ways, onward, walks, IsUncleared}}
+use Rattle.sharc_history_laws.proofs.{Imports.{◌≡◌, ℕ, zero, suc, ◌<◌, ◌≤◌, ◌⊎◌, inl, inr, Bool, true, false, length, List, [], ◌∷◌, if◌then◌else◌, refl, sym, ap, ◌∙◌, subst, ⊎_elim, arith, cases_lt, slice_index_or, Code, Parameter, Instr, Shape, Stage, Rests, Enters, Machine, act, has_room, with_parameter, entered, start, function_of, instr_at, no_function, after, may_go, Gate, Closed, Checked, Holds, Loaded, HoldsLoaded, Sole, Label, Labels, Leads, LessGate, View, FramesStand, IsWellTyped, Fine, entry_label, Targets, yes}, Onward.{Ways, onward, walks, IsUncleared}}
 
 -- ---- gates
 not_sole : (k : Gate) (r : ℕ) → IsUncleared k → LessGate k (Sole r true) → ⊥

@@ -1,5 +1,5 @@
 -- The thread that holds a mutex for which another one waits.
-use Rattle.sharc_history_laws.proofs.{Imports.{◌≡◌, ℕ, zero, suc, ◌≢◌, true, List, is_some, refl, sym, ap, ◌∙◌, subst, slice_index, Code, Cell, Shape, RunLaws, Fits, cell_word, Machine, instr_at, word, place, object, opening_words, Turn, Global, IsRun, opening_of, cell_at, one_thread, bounds, place_after, Instr, object_of, IsApart, events_of, holds_mutex, Labels, Keeps, CodeBegins, CellsAreThere, PointersAreThere, AccessesAreAllowed, IsOn, IsSmall, StageStands, object_of_cell, number_in, IsWellTyped, Fine, Targets, Field, Content, is_mutex, history_of}, Finds.{is_apart, is_there, object_is}, Locked.{held_told, names_cell}, Locking.{Locks, lock_runs}, Rules.newest, Single.rests_hold, Stands.{there, some_base}}
+use Rattle.sharc_history_laws.proofs.{Imports.{◌≡◌, ℕ, zero, suc, ◌≢◌, true, List, is_some, refl, sym, ap, ◌∙◌, subst, slice_index, Code, Cell, Shape, RunLaws, Fits, cell_word, Machine, instr_at, word, place, object, opening_words, Turn, Global, IsRun, opening_of, cell_at, one_thread, bounds, place_after, Instr, object_of, IsApart, events_of, holds_mutex, Labels, Keeps, CodeBegins, CellsAreThere, PointersAreThere, AccessesAreAllowed, IsOn, IsSmall, StageStands, object_of_cell, number_in, IsWellTyped, Fine, Targets, Field, is_mutex, history_of}, Finds.{is_apart, is_there, object_is}, Locked.{held_told, names_cell}, Locking.{Locks, lock_runs}, Rules.newest, Single.rests_hold, Stands.{there, some_base}}
 
 module _ (cell_laws : CellsAreThere) (pointers : PointersAreThere) (rights : AccessesAreAllowed) (laws : RunLaws) (begins_law : CodeBegins) (keeps : Keeps) (x : Targets) (code : Code) (s : Shape) (ls : Labels) (wt : IsWellTyped x code ls) (fits : Fits code s) (few : IsSmall code s)
     (run : List Turn) (is_run : IsRun bounds (one_thread code s) (opening_of bounds (one_thread code s) (opening_words code s)) run) (t : ℕ) (on : IsOn (place_after code s run) t) (c : Cell) (site : ℕ)

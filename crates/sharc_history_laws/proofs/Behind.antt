@@ -1,5 +1,5 @@
 -- Cells behind the last one of an object, and places beside the cells of a global, have the value that they begin with: no turn of typed code writes one.
-use Rattle.sharc_history_laws.proofs.{Imports.{◌≡◌, ◌≢◌, ℕ, ◌+◌, ◌*◌, ◌<◌, ◌≤◌, Bool, true, false, ◌||◌, List, ◌∷◌, Option, Some, None, refl, sym, ap, ◌∙◌, subst, ⊎_elim, arith, or_right, slice_index_or, CellAt, Object, SourceEvent, Resolution, Code, Cell, Instr, Shape, RunLaws, Fits, IsInGlobal, Turn, Global, MayTurn, result_of, said, cell_at, no_global, one_thread, bounds, place_after, makes, is_cell, is_number, made_by, same_cell, cell_changed, initial_value, Targets, Field, Labels, IsWellTyped, HasCell, World, IsSmall, OnHold, Keeps, CellsAreThere, PointersAreThere, AccessesAreAllowed, is_access}, TurnAt.{turn_at, told_at, turn_stands}, Acts.{given_at, freed_at, About, no_access}, Consists.{Consists, consists_then}, Contents.{newest_value, value_changed, value_kept}, Holding.cell_eq, Lists.Newest, Locked.NamesIn, OneMode.{place_of, numbers_now}, Rules.{pushed, about_now, decide, number_yes, makes_none}, Shared.number_of, Stands.there, Tables.header_of, Telling.{changed_said, unchanged_said}, Valued.{made_zero, cell_named, hold}, Values.{was, cells_stay}}
+use Rattle.sharc_history_laws.proofs.{Imports.{◌≡◌, ◌≢◌, ℕ, ◌+◌, ◌*◌, ◌<◌, ◌≤◌, Bool, true, false, ◌||◌, List, ◌∷◌, Option, Some, None, refl, sym, ap, ◌∙◌, subst, ⊎_elim, arith, or_right, slice_index_or, CellAt, Object, SourceEvent, Resolution, Code, Cell, Instr, Shape, RunLaws, Fits, IsInGlobal, Turn, MayTurn, result_of, said, cell_at, no_global, one_thread, bounds, place_after, makes, is_cell, is_number, made_by, same_cell, cell_changed, initial_value, Targets, Field, Labels, IsWellTyped, HasCell, World, IsSmall, OnHold, Keeps, CellsAreThere, PointersAreThere, AccessesAreAllowed, is_access}, TurnAt.{turn_at, told_at, turn_stands}, Acts.{given_at, freed_at, About, no_access}, Consists.{Consists, consists_then}, Contents.{newest_value, value_changed, value_kept}, Holding.cell_eq, Lists.Newest, Locked.NamesIn, OneMode.{place_of, numbers_now}, Rules.{pushed, about_now, decide, number_yes, makes_none}, Shared.number_of, Stands.there, Tables.header_of, Telling.{changed_said, unchanged_said}, Valued.{made_zero, cell_named, hold}, Values.{was, cells_stay}}
 
 abbrev pub IsBehind : Code → World → (ℕ → ℕ) → Object → ℕ → Type 0
 IsBehind code w cells (Object.Made n) cell = (n ≢ 0) × ((w.obj n).live ≡ true) × (cells n ≤ cell)
@@ -79,7 +79,7 @@ module _ (cell_laws : CellsAreThere) (pointers : PointersAreThere) (rights : Acc
       unwritten : is_cell c (changed_said event) ≡ false
       unwritten = by i refl
         where
-          rests : (j : Instr) → i ≡ j → Rattle.sharc_history_laws.proofs.Single.single j ≡ true → OnHold ((place_after code s earlier).threads one.thread).own.stage
+          rests : (j : Instr) → i ≡ j → Rattle.sharc_invariant.proofs.Own.is_single j ≡ true → OnHold ((place_after code s earlier).threads one.thread).own.stage
           rests j is single = hold cell_laws pointers rights laws keeps x code s ls wt fits few one earlier h may j is single
 
           by : (j : Instr) → i ≡ j → is_cell c (changed_said event) ≡ false

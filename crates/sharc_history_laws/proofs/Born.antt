@@ -1,5 +1,5 @@
 -- The cells of an object that a turn makes are 0, and its type is the one that its New's place says.
-use Rattle.sharc_history_laws.proofs.{Imports.{◌≡◌, ℕ, ◌+◌, ◌*◌, ◌/◌, ◌^◌, ◌<◌, ◌≢◌, min, max, Bool, true, false, nat_lt, List, ◌∷◌, Option, Some, None, if◌then◌else◌, refl, sym, ap, ◌∙◌, subst, arith, get_or-set_other, slice_index, WordOp, WordStep, WordEvent, word_after, NewView, word_number, turn_of_stage, NewArguments, NewStage, Code, Instr, Shape, Stage, Makes, RunLaws, Fits, first_cell, Machine, act, asks_new, elements_of, int, ref, new, all_cells, turn, after, asked_by, Turn, MayTurn, state_now, words_now, one_thread, bounds, place_after, Targets, StaticType, cells_of, Entry, Empty, Refers, Unknown, Label, Labels, LessEntry, Leads, fill, IsWellTyped, Fine, ObjectState, objects_behind, made_behind, new_behind, owned, type_held, entry_type, IsSmall, StageStands, BuildsAt, Keeps, CellsAreThere, PointersAreThere}, TurnAt.turn_at, Consists.{Consists, consists_then, objects_then, made_word}, Stands.granules_low, Tables.{header_at, header_in, header_of, elements_in_stage}, Carried.put_same}
+use Rattle.sharc_history_laws.proofs.{Imports.{◌≡◌, ℕ, ◌+◌, ◌*◌, ◌/◌, ◌^◌, ◌<◌, ◌≢◌, min, max, Bool, true, false, nat_lt, List, ◌∷◌, Option, Some, None, if◌then◌else◌, refl, sym, ap, ◌∙◌, subst, arith, get_or-set_other, slice_index, WordOp, WordStep, WordEvent, word_after, NewView, word_number, turn_of_stage, NewArguments, NewStage, Code, Instr, Shape, Stage, Makes, RunLaws, Fits, first_cell, Machine, act, asks_new, elements_of, int, ref, new, all_cells, turn, after, asked_by, Turn, MayTurn, state_now, words_now, one_thread, bounds, place_after, Targets, StaticType, cells_of, Entry, Empty, Refers, Unknown, Label, Labels, LessEntry, Leads, fill, IsWellTyped, Fine, ObjectState, objects_behind, made_behind, new_behind, owned, type_held, entry_type, IsSmall, StageStands, BuildsAt, Keeps, CellsAreThere, PointersAreThere, put_same}, TurnAt.turn_at, Consists.{Consists, consists_then, objects_then, made_word}, Stands.granules_low, Tables.{header_at, header_in, header_of, elements_in_stage}}
 use Rattle.sharc_code.specs.Runs.{step_of}
 use Rattle.sharc_invariant.specs.Words.{cell_at}
 

@@ -1,5 +1,5 @@
 -- With the access that was refused first no history goes on that keeps the rules.
-use Rattle.sharc_history_laws.proofs.{Imports.{◌≡◌, ℕ, ◌+◌, ◌≢◌, ◌⊎◌, inl, inr, Bool, true, false, ◌||◌, List, [], ◌∷◌, ◌++◌, reverse, filter, Option, Some, None, is_some, if◌then◌else◌, refl, sym, ap, ◌∙◌, subst, ⊎_elim, eqb-true, cases_eq, not_true as unset, or_no, reverse-append, slice_index, list_any, Act, Object, SourceEvent, CellMode, Kind, Read, Write, epoch_of, is_write, Code, Shape, ConflictAt, Stop, Conflict, NoLock, NotSole, Trapped as Trap, first_shadow, Machine, instr_at, may_go, Turn, state_now, told_by, Erase, one_thread, place_after, Access, access_by, made_by, given_by, is_number, begins, frees, is_of, events_of, granule_in as granule_of, History, AccessSet, ends, until_gone, Obeys, is_gone, CheckOf, Labels, touch_at, Targets, NothingBetween, IsCause, IsNamed, GoesOn, WasMade, IsNextOf, BreaksRules, HasNamed, IsCheck, ChecksAreFollowed, Follows, IsNext, IsMade, TellsAccess, access_of, access_checked, history_of, yes, or_right}, TurnAt.RunOf, Caused.{cause, has_named, base_of as base_run}, Checks.{check_cell, write_of_access}, Doing.{Does, Plain, Passes, Refuses, IsNoCheck, does}, Lasting.halted, Lists.{Newest, reverse_push}, Rules.{pushed, newest, newest_now}, Wholes.{TheLaws, Typed, whole, fresh_of}, Threaded.or_left, Carried.put_other}
+use Rattle.sharc_history_laws.proofs.{Imports.{◌≡◌, ℕ, ◌+◌, ◌≢◌, ◌⊎◌, inl, inr, Bool, true, false, ◌||◌, List, [], ◌∷◌, ◌++◌, reverse, filter, Option, Some, None, is_some, if◌then◌else◌, refl, sym, ap, ◌∙◌, subst, ⊎_elim, eqb-true, cases_eq, not_true as unset, or_no, reverse-append, slice_index, list_any, Act, Object, SourceEvent, CellMode, Kind, Read, Write, epoch_of, is_write, Code, Shape, ConflictAt, Stop, Conflict, NoLock, NotSole, Trapped as Trap, first_shadow, Machine, instr_at, may_go, Turn, state_now, told_by, Erase, one_thread, place_after, Access, access_by, made_by, given_by, is_number, begins, frees, is_of, events_of, granule_in as granule_of, History, AccessSet, ends, until_gone, Obeys, is_gone, CheckOf, Labels, touch_at, Targets, NothingBetween, IsCause, IsNamed, GoesOn, WasMade, IsNextOf, BreaksRules, HasNamed, IsCheck, ChecksAreFollowed, Follows, IsNext, IsMade, TellsAccess, access_of, access_checked, history_of, yes, or_right, put_other}, TurnAt.RunOf, Caused.{cause, has_named, base_of as base_run}, Checks.{check_cell, write_of_access}, Doing.{Does, Plain, Passes, Refuses, IsNoCheck, does}, Lasting.halted, Lists.{Newest, reverse_push}, Rules.{pushed, newest, newest_now}, Wholes.{TheLaws, Typed, whole, fresh_of}, Threaded.or_left}
 
 -- ---- lists
 abbrev pub AllOf : (SourceEvent → Type 0) → History → Type 0

@@ -1,5 +1,5 @@
 -- What an effect on the world leaves of a passed check, or of an object that a thread has alone or that is gone.
-use Rattle.sharc_history_laws.proofs.Imports.{◌≡◌, ℕ, suc, ◌≢◌, ◌⊎◌, inl, inr, Bool, true, false, ◌&&◌, if◌then◌else◌, refl, sym, ap, ◌∙◌, subst, ⊎_elim, cases_eq, nat_eq, put, GranuleState, Passed, cleared, withdrawn, ObjectType, TypeRules, Size, RegisterOf, Slot, In, TypedReference, ObjectState, Shut, IsSole as Sole, World, WorldInvariant, WinOk, in_ref, put2, none, retype, give, make, set_gran, Effect, Silent, Silently, Gives, Frees, Locks, Unlocks, Returns, Closing, Without, ne_eq, eq_refl}
+use Rattle.sharc_history_laws.proofs.Imports.{◌≡◌, ℕ, suc, ◌≢◌, ◌⊎◌, inl, inr, Bool, true, false, ◌&&◌, if◌then◌else◌, refl, sym, ap, ◌∙◌, subst, ⊎_elim, cases_eq, nat_eq, put, GranuleState, Passed, cleared, withdrawn, ObjectType, TypeRules, Size, RegisterOf, Slot, In, TypedReference, ObjectState, Shut, IsSole as Sole, World, WorldInvariant, WinOk, in_ref, put2, none, retype, give, make, set_gran, Effect, Silent, Silently, Gives, Frees, Locks, Unlocks, Returns, Closing, Without, ne_eq, put_same, put_other}
 use Rattle.sharc_invariant.specs.{World.{place, freed}, Effect.{Accesses, Clears, Makes, Withdraws}}
 
 -- thread u has passed a check of granule j of object n, or the object is had alone, or gone
@@ -7,12 +7,6 @@ abbrev pub Stands : World → (n j u : ℕ) → Bool → Type 0
 Stands w n j u write = Passed (w.gran n j) u write ⊎ Without w n
 
 -- ---- changed functions
-pub put_same : {A : Type 0} (f : ℕ → A) (i : ℕ) (v : A) → put f i v i ≡ v
-put_same f i v = rw (eq_refl i) refl
-
-pub put_other : {A : Type 0} (f : ℕ → A) (i j : ℕ) (v : A) → (j ≡ i → ⊥) → put f i v j ≡ f j
-put_other f i j v ne = rw (ne_eq j i ne) refl
-
 gran_other : (f : ℕ → ℕ → GranuleState) (o g n j : ℕ) (v : GranuleState) → (n ≡ o → ⊥) → put2 f o g v n j ≡ f n j
 gran_other f o g n j v ne = ap (λ (h : ℕ → GranuleState). h j) (put_other f o n (put (f o) g v) ne)
 

@@ -1,5 +1,5 @@
 -- The check that a report may name is its cause, and there is one.
-use Rattle.sharc_history_laws.proofs.{Imports.{◌≡◌, ℕ, zero, suc, ◌+◌, ◌*◌, ◌/◌, ◌<◌, ◌≢◌, ◌⊎◌, inl, inr, Bool, true, false, ◌&&◌, List, [], ◌∷◌, ◌++◌, Option, Some, None, if◌then◌else◌, refl, sym, ap, ◌∙◌, subst, ⊎_elim, arith, cases_eq, or_right, nat_tests, slice_index, nat_lt, ◌==◌, CellAt, THREADS, Kind, Read, Write, Note, note_of, site_at, conflicts_in, epoch_of, stands, HasOther, Conflicts, Code, Cell, Shape, ConflictAt, Conflict, granules, first_shadow, shadow_word, Machine, instr_at, wrote, stopped, check_of, Turn, Global, cell_at, place_after, granule_in, CheckOf, Labels, touch_at, object_of_cell, number_in, Targets, noted_site, Stood, StoppedThere, IsNamed, OfWrite, OfRead, OfStop, OfFirst, NothingBetween, IsCause, HasNamed, site_of_check, IsCheck, ChecksAreFollowed, same_is, yes, some_or, eq_of}, TurnAt.{turn_at, RunOf}, Checks.{CheckCell, check_cell, cell_of_access, checked_here, adds, live_then, inside_then}, Conflicting.accesses_show, Doing.IsCheckAt, Followed.of_check, Noting.notes_told, Remaining.{word_at, site_now, Reason, Writes, Written, stop_is}, Shadows.at_low, Spots.{Spot, SameSpot, same_spot, object_is}, Walking.along, Wholes.{TheLaws, Typed, Whole, whole, halting, fresh_of}, Finds.same_object}
+use Rattle.sharc_history_laws.proofs.{Imports.{◌≡◌, ℕ, zero, suc, ◌+◌, ◌*◌, ◌/◌, ◌<◌, ◌≢◌, ◌⊎◌, inl, inr, Bool, true, false, ◌&&◌, List, [], ◌∷◌, ◌++◌, Option, Some, None, if◌then◌else◌, refl, sym, ap, ◌∙◌, subst, ⊎_elim, arith, cases_eq, or_right, nat_tests, slice_index, nat_lt, ◌==◌, CellAt, THREADS, Kind, Read, Write, Note, note_of, site_at, conflicts_in, epoch_of, stands, HasOther, Conflicts, Code, Cell, Shape, ConflictAt, Conflict, granules, first_shadow, shadow_word, Machine, instr_at, wrote, stopped, check_of, Turn, Global, cell_at, place_after, granule_in, CheckOf, Labels, touch_at, object_of_cell, number_in, Targets, noted_site, Stood, StoppedThere, IsNamed, OfWrite, OfRead, OfStop, OfFirst, NothingBetween, IsCause, HasNamed, site_of_check, IsCheck, ChecksAreFollowed, same_is, yes, some_or, eq_of, at_low}, TurnAt.{turn_at, RunOf}, Checks.{CheckCell, check_cell, cell_of_access, checked_here, adds, live_then, inside_then}, Conflicting.accesses_show, Doing.IsCheckAt, Followed.of_check, Noting.notes_told, Remaining.{word_at, site_now, Reason, Writes, Written, stop_is}, Spots.{Spot, SameSpot, same_spot, object_is}, Walking.along, Wholes.{TheLaws, Typed, Whole, whole, halting, fresh_of}, Finds.same_object}
 use Rattle.sharc_heap.specs.ShadowWord.{is_of}
 use Rattle.sharc_history_laws.proofs.Remaining as remaining
 

@@ -1,5 +1,5 @@
 -- A turn that is a check: its cell, the bit that it sets, and the access that it is of.
-use Rattle.sharc_history_laws.proofs.{Imports.{◌≡◌, ℕ, ◌+◌, ◌*◌, ◌<◌, Bool, true, false, List, ◌∷◌, Some, None, refl, sym, ap, ◌∙◌, subst, Kind, Read, Write, AddsAccess, is_write, Code, Cell, Instr, Shape, granules, granule_at, granule_of, Machine, instr_at, place, check_of, Turn, Global, result_of, after_turn, cell_at, one_thread, bounds, place_after, Access, CheckOf, Label, Labels, IsOn, touch_at, State, StageStands, OnHold, Fine, HasCell, Targets, Field, World, IsFollowed, ChecksAreFollowed, access_to, access_checked}, TurnAt.{turn_at, RunOf}, Consists.Consists, Doing.granule_low, Followed.{IsCheckBy, OfRead, OfWrite, check_by, accessed_is}, Remaining.{word_at, check_bit}, Single.{single, rests_hold, single_check}, Spots.{IsChecked, is_checked}, Staying.{StillThere, kept_calm}, Tables.header_of, Acts.{given_at, freed_at}, Wholes.{TheLaws, Typed, Whole, whole, whole_next, fresh_of}}
+use Rattle.sharc_history_laws.proofs.{Imports.{◌≡◌, ℕ, ◌+◌, ◌*◌, ◌<◌, Bool, true, false, List, ◌∷◌, Some, None, refl, sym, ap, ◌∙◌, subst, Kind, Read, Write, AddsAccess, is_write, Code, Cell, Instr, Shape, granules, granule_at, granule_of, Machine, instr_at, place, check_of, Turn, Global, result_of, after_turn, cell_at, one_thread, bounds, place_after, Access, CheckOf, Label, Labels, IsOn, touch_at, State, StageStands, OnHold, Fine, HasCell, Targets, Field, World, IsFollowed, ChecksAreFollowed, access_to, access_checked, granule_low}, TurnAt.{turn_at, RunOf}, Consists.Consists, Followed.{IsCheckBy, OfRead, OfWrite, check_by, accessed_is}, Remaining.{word_at, check_bit}, Single.{rests_hold, single_check}, Spots.{IsChecked, is_checked}, Staying.{StillThere, kept_calm}, Tables.header_of, Acts.{given_at, freed_at}, Wholes.{TheLaws, Typed, Whole, whole, whole_next, fresh_of}}
 use Rattle.sharc_history_laws.specs.Followed.{Accesses}
 
 -- the cell of a check

@@ -1,5 +1,5 @@
 -- No bit stands in the granules of an object that is given or freed.
-use Rattle.sharc_history_laws.proofs.{Imports.{◌≡◌, ℕ, zero, suc, ◌+◌, ◌*◌, ◌/◌, ◌^◌, ◌<◌, ◌≤◌, ◌≢◌, Bool, true, false, not, min, None, if◌then◌else◌, refl, sym, ap, ◌∙◌, subst, ⊎_elim, arith, cases_eq, nat_tests, slice_index, nat_lt, ◌==◌, Kind, ShadowLaws, stands, Code, Cell, Instr, Shape, Stage, Rests, Looks, Clears, Empties, Lowers, FreeLooks, FreeClears, Uncounts, Links, Fits, granules, first_shadow, granule_at, length_word, Machine, instr_at, act, ref, place, at_stage, looks, clear, rests, free, free_looks, freed, empties, emptied, fields, layout_at, data_granules, data_granule, largest, step_of, wrote, ThreadLaws, begun, turn, after, may_go, asked_by, Turn, Global, MayTurn, after_turn, state_now, result_of, one_thread, bounds, WordOp, Touch, Untouched, CheckOf, ClearOf, WithdrawOf, cleared_by, freed_by, touch_of, Closing, Gate, Sole, Entry, Refers, Label, Labels, Leads, LessGate, LessEntry, gated, empty, CellsAreThere, PointersAreThere, StateStands, IsOn, touch_at, State, Runs, StageStands, GateStands, OnClear, OnFree, OnHold, granules_freed, object_of_cell, view_of, IsWellTyped, Fine, Targets, StaticType, cells_of, length_at, World, IsSole, not_below, yes, and_no}, TurnAt.turn_at, Onward.{IsUncleared, walks}, Arriving.{less_uncleared, is_clearing, Arrives, arriving}, Consists.found_is, Doing.{IsCheckAt, Does, Plain, Passes, Refuses, IsNoCheck, does}, Remaining.{word_at, Remains, checked_granule}, Shadows.{IsNext, WordBy, word_by, at_low, in_cells}, Shared.closing_own, Single.rests_hold, Stands.{gate, granules_low, reads_ref, sole_ref, live_ref, target_ref}, Tables.length_kept, Writes.writes, Carried.{put_same, put_other}, Finds.same_object}
+use Rattle.sharc_history_laws.proofs.{Imports.{◌≡◌, ℕ, zero, suc, ◌+◌, ◌*◌, ◌/◌, ◌^◌, ◌<◌, ◌≤◌, ◌≢◌, Bool, true, false, not, min, None, if◌then◌else◌, refl, sym, ap, ◌∙◌, subst, ⊎_elim, arith, cases_eq, nat_tests, slice_index, nat_lt, ◌==◌, Kind, ShadowLaws, stands, Code, Cell, Instr, Shape, Stage, Rests, Looks, Clears, Empties, Lowers, FreeLooks, FreeClears, Uncounts, Links, Fits, granules, first_shadow, granule_at, length_word, Machine, instr_at, act, ref, at_stage, looks, clear, rests, free, free_looks, freed, empties, emptied, fields, layout_at, data_granules, data_granule, largest, step_of, wrote, ThreadLaws, begun, turn, after, may_go, asked_by, Turn, Global, MayTurn, after_turn, state_now, result_of, one_thread, bounds, WordOp, Touch, Untouched, CheckOf, ClearOf, WithdrawOf, cleared_by, freed_by, touch_of, Closing, Gate, Sole, Entry, Refers, Label, Labels, Leads, LessGate, LessEntry, gated, empty, CellsAreThere, PointersAreThere, StateStands, IsOn, touch_at, State, Runs, StageStands, GateStands, OnClear, OnFree, OnHold, granules_freed, object_of_cell, view_of, IsWellTyped, Fine, Targets, StaticType, cells_of, length_at, World, IsSole, not_below, yes, and_no, put_same, put_other, at_low, in_cells}, TurnAt.turn_at, Onward.{IsUncleared, walks}, Arriving.{less_uncleared, is_clearing, Arrives, arriving}, Consists.found_is, Doing.{IsCheckAt, Does, Plain, Passes, Refuses, IsNoCheck, does}, Remaining.{word_at, Remains, checked_granule}, Shadows.{IsNext, WordBy, word_by}, Shared.closing_own, Single.rests_hold, Stands.{gate, granules_low, reads_ref, sole_ref, live_ref, target_ref}, Tables.length_kept, Writes.writes, Finds.same_object}
 
 -- ---- what is said of a thread that clears an object or gives it
 -- no bit stands in the first granules of an object

@@ -1,5 +1,5 @@
 -- A refused check of an access comes from checks that others made, in a run of typed code.
-use Rattle.sharc_history_laws.proofs.{Imports.{◌≡◌, ℕ, ◌+◌, inl, inr, Bool, true, false, List, [], ◌∷◌, Option, Some, None, is_some, nat_lt, if◌then◌else◌, refl, sym, ap, ◌∙◌, subst, ⊎_elim, cases_eq, slice_index, ◌==◌, Kind, Read, Write, epoch_of, stands, bits_of, WordOp, Code, Cell, Instr, Shape, ConflictAt, Stage, Clears, FreeClears, WithdrawsFrom, Stop, Conflict, Fits, granules, granule_at, granule_of, shadow_word, Machine, instr_at, act, place, word, ref, step_of, opening_words, TurnsComeOut, MayStop, check_of, turn, after, may_go, asked_by, Turn, IsRun, MayTurn, after_turn, put, state_now, result_of, opening_of, one_thread, bounds, place_after, Targets, Labels, IsWellTyped, IsSmall, first_place, Touch, Untouched, CheckOf, ClearOf, WithdrawOf, Marks, cleared_by, freed_by, withdrawn_by, touch_of, with_check, without_thread, marks_by, marks_after, RunsConflict, CheckStands, touch_at, RunsBits, site_of_check, Past, MadeSince, Opposes, ShowsConflict, yes, is_below}, TurnAt.{turn_at, RunOf}, Consists.found_is, Outcomes.reports, Sole.{Halting, by_last_turn, stop_none}, Doing.granule_low, Carried.{put_same, put_other}}
+use Rattle.sharc_history_laws.proofs.{Imports.{◌≡◌, ℕ, ◌+◌, inl, inr, Bool, true, false, List, [], ◌∷◌, Option, Some, None, is_some, nat_lt, if◌then◌else◌, refl, sym, ap, ◌∙◌, subst, ⊎_elim, cases_eq, slice_index, ◌==◌, Kind, Read, Write, epoch_of, stands, bits_of, WordOp, Code, Cell, Instr, Shape, ConflictAt, Stage, Clears, FreeClears, WithdrawsFrom, Stop, Conflict, Fits, granules, granule_at, granule_of, shadow_word, Machine, instr_at, act, place, ref, step_of, opening_words, TurnsComeOut, MayStop, check_of, turn, after, may_go, asked_by, Turn, IsRun, MayTurn, after_turn, put, state_now, result_of, opening_of, one_thread, bounds, place_after, Targets, Labels, IsWellTyped, IsSmall, first_place, Touch, Untouched, CheckOf, ClearOf, WithdrawOf, Marks, cleared_by, freed_by, withdrawn_by, touch_of, with_check, without_thread, marks_by, marks_after, RunsConflict, CheckStands, touch_at, RunsBits, site_of_check, Past, MadeSince, Opposes, ShowsConflict, yes, is_below, put_same, put_other, granule_low}, TurnAt.{turn_at, RunOf}, Consists.found_is, Outcomes.reports, Sole.{Halting, by_last_turn, stop_none}}
 
 -- ---- a turn that is a check has a site
 module _ (s : Shape) (kind : Kind) (p : ℕ) (ok : Bool) where

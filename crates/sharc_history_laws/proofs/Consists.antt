@@ -1,13 +1,6 @@
 -- The path of each thread of each run of typed code is consistent.
-use Rattle.sharc_history_laws.proofs.{Imports.{◌≡◌, ℕ, zero, suc, ◌+◌, ◌*◌, ◌^◌, ◌<◌, ◌≤◌, ◌≢◌, inl, Bool, true, false, cond, length, List, [], ◌∷◌, Option, Some, None, if◌then◌else◌, refl, sym, ap, ◌∙◌, subst, ⊎_elim, arith, eqb-true, cases_eq, le-leb, lt-leb, not_false, length-map, slice_index, nat_lt, ◌==◌, WordOp, WordStep, WordEvent, word_after, words_after_step, SourceEvent, NewView, word_number, turn_of_stage, NewArguments, NewStage, Code, Instr, Shape, Stage, Rests, Makes, Links, RunLaws, Fits, granules, first_cell, Machine, instr_at, ref, act, asks_new, elements_of, int, new_state, opening_words, begun, machine_after, turn, asked_by, may_go, Said, Turn, Global, IsRun, MayTurn, at, after_turn, put, words_now, state_now, result_of, turns_of, with_told, opening_of, Answered, one_thread, bounds, place_after, Erase, speaks_of, elements_in, Elements, elements_told, said_now, Has, IsConsistent, IsConsistentTurn, founds_of, told_in, table_of, elements_before, Targets, Gate, Loaded, HoldsLoaded, Labels, IsWellTyped, Fine, RegisterOf, In, CellOf, Base, IsLoaded, World, ObjectState, WinOk, in_ref, base_of, has_returned, length_at, lang_of, is_freed, Built, Live, first_world, Effect, changes_objects, objects_now, State, IsSmall, StageStands, GateStands, StopStands, BuildsAt, OnHold, base_of_cell, number_in, IsOn, WasLoaded, Keeps, CodeBegins, CellsAreThere, PointersAreThere, ne_eq, eq_refl, is_below, set_here}, TurnAt.{turn_at, told_at}, Gates.{LoadedStands, loaded_still, links_still, takes_loaded, unloaded}, Single.{single, rests_hold}, Stands.{live_slot, granules_low, gate, sole_ref, live_ref}, Tables.{header_at, header_in, header_of, elements_in_stage, told_other, told_made, was_live, length_kept}, Writes.writes, Finds.finds, Carried.{put_other, put_same}}
+use Rattle.sharc_history_laws.proofs.{Imports.{◌≡◌, ℕ, zero, suc, ◌+◌, ◌*◌, ◌^◌, ◌<◌, ◌≤◌, ◌≢◌, inl, Bool, true, false, cond, length, List, [], ◌∷◌, Option, Some, None, if◌then◌else◌, refl, sym, ap, ◌∙◌, subst, ⊎_elim, arith, eqb-true, cases_eq, le-leb, lt-leb, not_false, length-map, slice_index, nat_lt, ◌==◌, WordOp, WordStep, WordEvent, word_after, words_after_step, SourceEvent, NewView, word_number, turn_of_stage, NewArguments, NewStage, Code, Instr, Shape, Stage, Rests, Makes, Links, RunLaws, Fits, granules, first_cell, Machine, instr_at, ref, act, asks_new, elements_of, int, new_state, opening_words, begun, machine_after, turn, asked_by, may_go, Said, Turn, Global, IsRun, MayTurn, at, after_turn, words_now, state_now, result_of, turns_of, with_told, opening_of, Answered, one_thread, bounds, place_after, Erase, speaks_of, elements_in, Elements, elements_told, said_now, Has, IsConsistent, IsConsistentTurn, founds_of, told_in, table_of, elements_before, Targets, Gate, Loaded, HoldsLoaded, Labels, IsWellTyped, Fine, RegisterOf, In, CellOf, Base, IsLoaded, World, ObjectState, WinOk, in_ref, base_of, has_returned, length_at, lang_of, is_freed, Built, Live, first_world, Effect, changes_objects, objects_now, State, IsSmall, StageStands, GateStands, StopStands, BuildsAt, OnHold, base_of_cell, number_in, IsOn, WasLoaded, Keeps, CodeBegins, CellsAreThere, PointersAreThere, ne_eq, eq_refl, is_below, set_here, single, put_all}, TurnAt.{turn_at, told_at}, Gates.{LoadedStands, loaded_still, links_still, takes_loaded, unloaded}, Single.rests_hold, Stands.{live_slot, granules_low, gate, sole_ref, live_ref}, Tables.{header_at, header_in, header_of, elements_in_stage, told_other, told_made, was_live, length_kept}, Writes.writes, Finds.finds}
 use Rattle.sharc_code.specs.Runs.{step_of, state_after}
-
--- ---- changed functions
-put_all : {A : Type 0} (P : ℕ → A → Type 0) (f : ℕ → A) (i : ℕ) (v : A) → P i v → ((j : ℕ) → (j ≡ i → ⊥) → P j (f j)) → (j : ℕ) → P j (put f i v j)
-put_all P f i v here there j = ⊎_elim
-    (λ (e : j ≡ i). subst (λ k. P k (put f i v k)) (sym e) (subst (P i) (sym (put_same f i v)) here))
-    (λ (ne : j ≡ i → ⊥). subst (P j) (sym (put_other f i j v ne)) (there j ne))
-    (cases_eq j i)
 
 -- ---- what a turn found
 pub found_is : (words : List ℕ) (event : Option WordEvent) (step : WordStep) → step_of event ≡ Some step → Answered words event → result_of event ≡ slice_index words step.word

@@ -1,5 +1,5 @@
 -- What cells hold by the events of a run, and as words.
-use Rattle.sharc_history_laws.proofs.{Imports.{◌≡◌, ℕ, ℤ, pos, negsuc, suc, ◌+◌, ◌-◌, ◌*◌, ◌^◌, ◌<◌, ◌⊎◌, Bool, true, false, cond, ◌∷◌, reverse, Some, sym, ap, ◌∙◌, subst, arith, ltb-true, nat_tests, slice_index, find, nat_lt, CellAt, SourceEvent, Resolution, Code, Width, Char, Int, Long, Shape, word_of, int_of, holds, value_bits, Machine, Global, reference, Elements, changes, value_left, value_by, value_after, initial_value, Targets, ObjectType, Content, Pointer, field_in, Labels, Number, Exactly, Within, Narrower, LessNumber, IsWellTyped, World, NumberStands}, Emptying.IsEmptied, Lists.{Newest, latest_is}, Locked.{Names, names_one}, OneMode.place_of, Shared.number_of, Sparing.is_value}
+use Rattle.sharc_history_laws.proofs.{Imports.{◌≡◌, ℕ, ℤ, ◌+◌, ◌*◌, ◌<◌, ◌⊎◌, true, false, cond, ◌∷◌, reverse, Some, sym, ap, subst, arith, slice_index, find, CellAt, SourceEvent, Resolution, Code, Width, Shape, int_of, holds, Machine, Global, reference, Elements, changes, value_left, value_by, value_after, initial_value, Targets, ObjectType, Content, Pointer, field_in, Labels, Number, Exactly, Within, LessNumber, IsWellTyped, World, NumberStands, wider}, Emptying.IsEmptied, Lists.{Newest, latest_is}, Locked.{Names, names_one}, OneMode.place_of, Shared.number_of, Sparing.is_value}
 use Rattle.sharc_invariant.specs.Words.{cell_at}
 
 -- ---- values by the events, the newest event first
@@ -46,39 +46,6 @@ one_cell x code ls wt c d p q o j =
     let at : 2 * (number_of d.object + 1) + place_of code d.object d.cell ≡ 2 * (number_of c.object + 1) + place_of code c.object c.cell = omega arith in
     names_one x code ls wt c d (number_of c.object) (2 * (number_of c.object + 1) + place_of code c.object c.cell) p
     (subst (λ n. Names code d n (2 * (number_of c.object + 1) + place_of code c.object c.cell)) (sym o) (subst (Names code d (number_of d.object)) at q))
-
--- ---- integers that a type holds go into a word and come back
-abbrev sign_of : Bool → ℤ → ℤ → ℤ
-sign_of true a b = a
-sign_of false a b = b
-
-low_value : (w : Width) (n : ℕ) → nat_lt n (2 ^ value_bits w) ≡ true → n < 2 ^ 63
-low_value Char n h = let a : n < 2 ^ 7 = ltb-true n (2 ^ 7) h in omega arith
-low_value Int n h = let a : n < 2 ^ 31 = ltb-true n (2 ^ 31) h in omega arith
-low_value Long n h = ltb-true n (2 ^ 63) h
-
-pub back_again : (w : Width) (z : ℤ) → holds w z ≡ true → int_of (word_of z) ≡ z
-back_again w (pos n) h = let lt = low_value w n h in let e : nat_lt n (2 ^ 63) ≡ true = grind (arith, nat_tests) in ap (λ b. sign_of b (pos n) (negsuc (2 ^ 64 - suc n))) e
-back_again w (negsuc n) h =
-    let lt = low_value w n h in
-    let v = 2 ^ 64 - suc n in
-    let e : nat_lt (2 ^ 64 - suc n) (2 ^ 63) ≡ false = grind (arith, nat_tests) in
-    let q : 2 ^ 64 - suc (2 ^ 64 - suc n) ≡ n = omega arith in
-    ap (λ b. sign_of b (pos (2 ^ 64 - suc n)) (negsuc (2 ^ 64 - suc (2 ^ 64 - suc n)))) e ∙ ap negsuc q
-
-wider : (v w : Width) (z : ℤ) → Narrower v w → holds v z ≡ true → holds w z ≡ true
-wider Char Char z n h = h
-wider Char Int (pos k) n h = grind (arith, nat_tests)
-wider Char Int (negsuc k) n h = grind (arith, nat_tests)
-wider Char Long (pos k) n h = grind (arith, nat_tests)
-wider Char Long (negsuc k) n h = grind (arith, nat_tests)
-wider Int Char z n h = absurd n
-wider Int Int z n h = h
-wider Int Long (pos k) n h = grind (arith, nat_tests)
-wider Int Long (negsuc k) n h = grind (arith, nat_tests)
-wider Long Char z n h = absurd n
-wider Long Int z n h = absurd n
-wider Long Long z n h = h
 
 -- a number that fits a type is held by it
 pub fits_in : (x : Targets) (elements refs : ℕ → ℕ) (types : ℕ → ObjectType) (names : ℕ → ℤ) (z : ℤ) (a : Number) (w : Width) → LessNumber a (Within w) → NumberStands x elements refs types names z a → holds w z ≡ true

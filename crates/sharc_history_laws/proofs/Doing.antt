@@ -1,5 +1,5 @@
 -- What a turn does to the access table of its thread and whether it stops the thread at the check of an access.
-use Rattle.sharc_history_laws.proofs.{Imports.{◌≡◌, ℕ, zero, suc, ◌+◌, ◌<◌, ◌⊎◌, inl, inr, Bool, true, false, length, List, [], ◌∷◌, Option, Some, None, is_some, if◌then◌else◌, refl, sym, ap, ◌∙◌, ⊎_elim, arith, cases_eq, nat_tests, get_or-set_other, slice_index, slice_index_or, slice_set, nat_lt, ◌==◌, Kind, Read, Write, Note, GranuleNotes, blank, of_kind, note_of, site_at, epoch_of, bits_of, conflicts_in, noted, WordOp, Code, Cell, Instr, Shape, ConflictAt, Stage, Clears, FreeClears, WithdrawsFrom, Conflict, granules, first_shadow, granule_at, granule_of, shadow_word, TurnsComeOut, check_of, Machine, Own, instr_at, act, place, ref, row_of, checked, stopped, with_own, wrote, step_of, turn, after, may_go, asked_by, Turn, Global, MayTurn, after_turn, state_now, result_of, one_thread, bounds, Touch, Untouched, CheckOf, WithdrawOf, cleared_by, freed_by, withdrawn_by, touch_of, touch_at, yes, same_is}, TurnAt.turn_at, Consists.found_is, Outcomes.{is_access_check, is_check, tabled, reports}, Carried.put_same}
+use Rattle.sharc_history_laws.proofs.{Imports.{◌≡◌, ℕ, zero, suc, ◌+◌, ◌<◌, ◌⊎◌, inl, inr, Bool, true, false, length, List, [], ◌∷◌, Option, Some, None, is_some, if◌then◌else◌, refl, sym, ap, ◌∙◌, ⊎_elim, arith, cases_eq, get_or-set_other, slice_index, slice_index_or, slice_set, ◌==◌, Kind, Read, Write, Note, GranuleNotes, blank, of_kind, note_of, site_at, epoch_of, bits_of, conflicts_in, noted, WordOp, Code, Cell, Instr, Shape, ConflictAt, Stage, Clears, FreeClears, WithdrawsFrom, Conflict, granules, first_shadow, granule_at, granule_of, shadow_word, TurnsComeOut, check_of, Machine, Own, instr_at, act, place, ref, row_of, checked, stopped, with_own, wrote, step_of, turn, after, may_go, asked_by, Turn, Global, MayTurn, after_turn, state_now, result_of, one_thread, bounds, Touch, Untouched, CheckOf, WithdrawOf, cleared_by, freed_by, withdrawn_by, touch_of, touch_at, yes, same_is, put_same, granule_low}, TurnAt.turn_at, Consists.found_is, Outcomes.{is_access_check, is_check, tabled, reports}}
 use Rattle.sharc_heap.specs.{Notes.with_note, Accesses.Accesses}
 use Rattle.sharc_code.specs.Machine as machines
 
@@ -144,12 +144,6 @@ pub record IsCheckAt (s : Shape) (m : Machine) (i : Instr) (kind : Kind) (q site
   pub is : i ≡ check_of kind cell site
   pub granule : q ≡ granule_at s (granule_of (place m cell))
   pub low : q < granules s
-
-pub granule_low : (s : Shape) (g : ℕ) → granule_at s g < granules s
-granule_low s g = elim (nat_lt g (granules s)) as (λ b. nat_lt g (granules s) ≡ b → (if b then g else 0) < granules s) [
-  | true ↦ λ e. grind (arith, nat_tests)
-  | false ↦ λ e. omega arith
-] refl
 
 -- what the turn of a thread did, where it found shadow words as they were
 pub data Does (s : Shape) (words : ℕ → ℕ) (m : Machine) (i : Instr) (touch : Touch) (m' : Machine) : Type 0 where

@@ -1,5 +1,5 @@
 -- An object whose pointer cells a Free empties: the thread goes on with it until the object is gone.
-use Rattle.sharc_history_laws.proofs.{Imports.{◌≡◌, ℕ, zero, suc, ◌+◌, ◌*◌, ◌⊎◌, inl, inr, min, Bool, true, false, ◌||◌, nat_lt, Some, if◌then◌else◌, refl, sym, ap, ◌∙◌, subst, ⊎_elim, cases_eq, Code, Layout, Shape, Stage, Empties, Lowers, FreeLooks, FreeClears, Uncounts, Machine, instr_at, ref, act, free, layout_at, empties, emptied, free_looks, at_stage, data_granules, fields, largest, turn, after, may_go, Turn, Global, after_turn, state_now, result_of, words_now, is_started, one_thread, bounds, Instr, is_clearing, or_right}, Acts.{freed_at, freed_in}, Carried.{put_same, put_other}}
+use Rattle.sharc_history_laws.proofs.{Imports.{◌≡◌, ℕ, zero, suc, ◌+◌, ◌*◌, ◌⊎◌, inl, inr, min, true, false, nat_lt, Some, if◌then◌else◌, refl, sym, ap, ◌∙◌, subst, ⊎_elim, cases_eq, Code, Layout, Shape, Stage, Empties, Lowers, FreeLooks, FreeClears, Uncounts, Machine, instr_at, ref, act, free, layout_at, empties, emptied, free_looks, at_stage, data_granules, fields, largest, turn, after, may_go, Turn, Global, after_turn, state_now, result_of, words_now, is_started, one_thread, bounds, Instr, is_clearing, or_right, put_same, put_other}, Acts.{freed_at, freed_in}}
 
 -- the thread is in the middle of a Free of this object
 pub record IsFreeing (code : Code) (m : Machine) (o : ℕ) : Type 0 where

@@ -1,5 +1,5 @@
 -- A thread that is gone by the events has ended.
-use Rattle.sharc_history_laws.proofs.{Imports.{◌≡◌, ℕ, pos, ◌⊎◌, ◌↔◌, Bool, true, false, ◌&&◌, List, [], ◌∷◌, Option, Some, None, refl, sym, ap, ◌∙◌, subst, ⊎_elim, arith, eqb-true, cases_eq, not_true as unset, not_false as some_true, slice_index, SourceEvent, Code, Instr, Shape, Ended, RunLaws, Fits, state_word, Machine, act, exit, is_exit, turn, after, may_go, Turn, result_of, state_now, said, one_thread, place_after, said_now, table_of, is_gone, is_natural, went, Labels, Keeps, CodeBegins, CellsAreThere, PointersAreThere, AccessesAreAllowed, IsSmall, IsWellTyped, Targets, history_of, yes}, TurnAt.{turn_at, RunOf}, Acts.thread_said, Broken.{AllOf, all_reverse, none_any}, Consists.consists, Leaving.{gone_said, not_gone, leaves_at}, Lists.Newest, Rules.{pushed, newest, newest_now, about_now, number_is}, Carried.{put_same, put_other}}
+use Rattle.sharc_history_laws.proofs.{Imports.{◌≡◌, ℕ, pos, ◌⊎◌, ◌↔◌, Bool, true, false, ◌&&◌, List, [], ◌∷◌, Option, Some, None, refl, sym, ap, ◌∙◌, subst, ⊎_elim, arith, eqb-true, cases_eq, not_true as unset, not_false as some_true, slice_index, SourceEvent, Code, Instr, Shape, Ended, RunLaws, Fits, state_word, Machine, act, exit, is_exit, turn, after, may_go, Turn, result_of, state_now, said, one_thread, place_after, said_now, table_of, is_gone, is_natural, went, Labels, Keeps, CodeBegins, CellsAreThere, PointersAreThere, AccessesAreAllowed, IsSmall, IsWellTyped, Targets, history_of, yes, put_same, put_other}, TurnAt.{turn_at, RunOf}, Acts.thread_said, Broken.{AllOf, all_reverse, none_any}, Consists.consists, Leaving.{gone_said, not_gone, leaves_at}, Lists.Newest, Rules.{pushed, newest, newest_now, about_now, number_is}}
 
 -- the event says that thread n is gone
 abbrev GoneBy : ℕ → SourceEvent → Bool

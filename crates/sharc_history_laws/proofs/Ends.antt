@@ -1,5 +1,5 @@
 -- What a report may name by the notes and stops at the end of a run is what it may name by those that were there when the check was refused.
-use Rattle.sharc_history_laws.proofs.{Imports.{◌≡◌, ℕ, ◌≢◌, true, false, List, [], ◌∷◌, ◌++◌, Option, Some, None, refl, sym, ap, ◌∙◌, subst, ⊎_elim, cases_eq, Kind, Read, Write, note_of, site_at, epoch_of, is_written, stands, Conflicts, Code, Shape, ConflictAt, Conflict, Machine, wrote, Turn, Global, state_now, one_thread, place_after, Labels, Targets, noted_site, Stood, StoppedThere, IsNamed, OfWrite, OfRead, OfStop, OfFirst, ShowsCause, HasNamed, ChecksAreFollowed, yes, some_or}, TurnAt.RunOf, Caused.{Report, the_report, cause, has_named, base_of as base_run}, Lasting.{epoch_is, note_later, write_before, FoundLater, stop_from, stop_later, stopped_later}, Remaining.{word_at, site_now, StoppedAt, Reason, Writes, Written}, Wholes.{TheLaws, Typed, whole}, Carried.put_other}
+use Rattle.sharc_history_laws.proofs.{Imports.{◌≡◌, ℕ, ◌≢◌, true, false, List, [], ◌∷◌, ◌++◌, Option, Some, None, refl, sym, ap, ◌∙◌, subst, ⊎_elim, cases_eq, Kind, Read, Write, note_of, site_at, epoch_of, is_written, stands, Conflicts, Code, Shape, ConflictAt, Conflict, Machine, wrote, Turn, Global, state_now, one_thread, place_after, Labels, Targets, noted_site, Stood, StoppedThere, IsNamed, OfWrite, OfRead, OfStop, OfFirst, ShowsCause, HasNamed, ChecksAreFollowed, yes, some_or, put_other}, TurnAt.RunOf, Caused.{Report, the_report, cause, has_named, base_of as base_run}, Lasting.{epoch_is, note_later, write_before, FoundLater, stop_from, stop_later, stopped_later}, Remaining.{word_at, site_now, StoppedAt, Reason, Writes, Written}, Wholes.{TheLaws, Typed, whole}}
 use Rattle.sharc_heap.specs.ShadowWord.{is_of}
 use Rattle.sharc_history_laws.proofs.Remaining as remaining
 

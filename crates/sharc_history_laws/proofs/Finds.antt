@@ -1,5 +1,5 @@
 -- What a turn of typed code finds is consistent.
-use Rattle.sharc_history_laws.proofs.{Imports.{◌≡◌, ℕ, zero, suc, ◌+◌, ◌*◌, ◌/◌, ◌<◌, ◌≤◌, ◌≢◌, true, false, Some, refl, sym, ap, ◌∙◌, subst, ⊎_elim, arith, mul-le-mul_right, cases_eq, cases_lt, nat_tests, All-contains_itself, slice_index, slice_index_or, nat_lt, ◌==◌, THREADS, WordStep, NewStage, NewView, Code, Parameter, Cell, Instr, Shape, Stage, Rests, Makes, Enters, word_of, Fits, granules, first_cell, cell_of, length_word, function_word, argument_word, state_word, Machine, act, instr_at, ref, int, place, object, word, is_held, is_of_null, function_of, turn, asked_by, IsInGlobal, Global, Elements, IsNumber, IsApart, IsThere, IsMutex, IsLock, IsFree, IsHeld, IsLength, IsNewIn, IsNewAt, IsArgument, IsArgumentAt, MayFind, Targets, ObjectType, Field, FieldType, Content, cells_of, field_in, is_pointer, is_mutex, type_at, Loaded, OfGlobal, Labels, IsWellTyped, Fine, HasField, HasCell, PointsToMutex, RegisterOf, ArgumentOf, In, Slot, CellOf, IsLoaded, World, WinOk, in_ref, length_at, lang_of, if_reference, is_unread, argument_of, Built, Live, State, Runs, StageStands, GateStands, NumberStands, BuildsAt, OnHold, object_of_cell, number_in, base_of_cell, refs_at, types_at, IsOn, CellsAreThere, not_true, lt_of_le-ne}, TurnAt.thread_at, Gates.{LoadedStands, no_pending}, Single.{single, rests_hold}, Stands.{register_is, live_slot, live_low, top, gate, known_ref, some_base, there, live_ref, target_ref}}
+use Rattle.sharc_history_laws.proofs.{Imports.{◌≡◌, ℕ, zero, suc, ◌+◌, ◌*◌, ◌/◌, ◌<◌, ◌≤◌, ◌≢◌, true, false, Some, refl, sym, ap, ◌∙◌, subst, ⊎_elim, arith, mul-le-mul_right, cases_eq, cases_lt, nat_tests, All-contains_itself, slice_index, slice_index_or, nat_lt, ◌==◌, THREADS, WordStep, NewStage, NewView, Code, Parameter, Cell, Instr, Shape, Stage, Rests, Makes, Enters, word_of, Fits, granules, first_cell, cell_of, length_word, function_word, argument_word, state_word, Machine, act, instr_at, ref, int, place, object, word, is_held, is_of_null, function_of, turn, asked_by, IsInGlobal, Global, Elements, IsNumber, IsApart, IsThere, IsMutex, IsLock, IsFree, IsHeld, IsLength, IsNewIn, IsNewAt, IsArgument, IsArgumentAt, MayFind, Targets, ObjectType, Field, FieldType, Content, cells_of, field_in, is_pointer, is_mutex, type_at, Loaded, OfGlobal, Labels, IsWellTyped, Fine, HasField, HasCell, PointsToMutex, RegisterOf, ArgumentOf, In, Slot, CellOf, IsLoaded, World, WinOk, in_ref, length_at, lang_of, if_reference, is_unread, argument_of, Built, Live, State, Runs, StageStands, GateStands, NumberStands, BuildsAt, OnHold, object_of_cell, number_in, base_of_cell, refs_at, types_at, IsOn, CellsAreThere, not_true, lt_of_le-ne, single}, TurnAt.thread_at, Gates.{LoadedStands, no_pending}, Single.rests_hold, Stands.{register_is, live_slot, live_low, top, gate, known_ref, some_base, there, live_ref, target_ref}}
 use Rattle.sharc_invariant.specs.{Types.Content.Pointer, Words.cell_at}
 
 module _ (there_laws : CellsAreThere) (x : Targets) (code : Code) (s : Shape) (ls : Labels) (wt : IsWellTyped x code ls) (fits : Fits code s) (g : Global Machine) (world : World) (st : State x code s ls g world) where

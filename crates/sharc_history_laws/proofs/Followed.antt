@@ -1,29 +1,6 @@
 -- A check of an access is directly before it, so where it passed its thread makes the access next.
-use Rattle.sharc_history_laws.proofs.{Imports.{◌≡◌, ℕ, ◌+◌, Bool, true, false, List, [], ◌∷◌, ◌++◌, Some, is_some, if◌then◌else◌, refl, sym, ap, ◌∙◌, subst, ⊎_elim, arith, cases_eq, nat_tests, ◌==◌, nat_eq, SourceEvent, CellAt, Act, Taken, Kind, Read, Write, note_of, site_at, epoch_of, conflicts_in, noted, Code, PlaceMode, Cell, Instr, Shape, Stage, Clears, FreeClears, WithdrawsFrom, Stop, Conflict, int_of, granule_at, granule_of, Machine, Own, instr_at, act, place, ref, int, row_of, stopped, with_own, with_note, wrote, checked, turn, after, may_go, Turn, Global, paired, state_now, result_of, turns_of, cell_at, mode_of, place_at, said, reference, kind_of, one_thread, place_after, Erase, Access, access_by, Touch, Untouched, CheckOf, WithdrawOf, cleared_by, freed_by, withdrawn_by, touch_of, site_of_check, IsCheck, IsFollowed, ChecksAreFollowed, access_to, access_of, TellsAccess, Follows, IsNext, IsMade, IsOfAccess, yes, TurnState, ne_eq}, TurnAt.turn_at, Carried.{put_same, put_other}}
+use Rattle.sharc_history_laws.proofs.{Imports.{◌≡◌, ℕ, ◌+◌, Bool, true, false, List, [], ◌∷◌, ◌++◌, Some, is_some, if◌then◌else◌, refl, sym, ap, ◌∙◌, subst, ⊎_elim, cases_eq, nat_eq, SourceEvent, CellAt, Act, Taken, Kind, Read, Write, note_of, site_at, epoch_of, conflicts_in, noted, Code, PlaceMode, Cell, Instr, Shape, Stop, Conflict, int_of, granule_at, granule_of, Machine, Own, instr_at, act, place, ref, int, stopped, with_own, with_note, wrote, checked, turn, after, may_go, Turn, paired, state_now, result_of, turns_of, cell_at, mode_of, place_at, said, reference, kind_of, one_thread, place_after, Erase, Access, access_by, CheckOf, touch_of, site_of_check, IsCheck, IsFollowed, ChecksAreFollowed, access_to, access_of, TellsAccess, Follows, IsNext, IsMade, IsOfAccess, yes, TurnState, ne_eq, put_same, put_other, Parts, parts, no_clear, no_free, no_exit}, TurnAt.turn_at}
 use Rattle.sharc_history_laws.specs.Followed.{Accesses}
-
--- ---- turns that are checks
-abbrev Parts : Touch → Kind → ℕ → Bool → Type 0
-Parts (CheckOf kind' p' ok') kind p ok = (kind' ≡ kind) × (p' ≡ p) × (ok' ≡ ok)
-Parts _ kind p ok = ⊥
-
-parts : (y : Touch) (kind : Kind) (p : ℕ) (ok : Bool) → y ≡ CheckOf kind p ok → Parts y kind p ok
-parts y kind p ok e = subst (λ y. Parts y kind p ok) (sym e) (refl, refl, refl)
-
-no_clear : (s : Shape) (h : ℕ) (y : Stage) (kind : Kind) (p : ℕ) (ok : Bool) → Parts (cleared_by s h y) kind p ok → ⊥
-no_clear s h (Clears done all seen) kind p ok z = z
-no_clear s h _ kind p ok z = z
-
-no_free : (s : Shape) (h : ℕ) (y : Stage) (kind : Kind) (p : ℕ) (ok : Bool) → Parts (freed_by s h y) kind p ok → ⊥
-no_free s h (FreeClears done elements seen) kind p ok z = z
-no_free s h _ kind p ok z = z
-
-no_exit : (s : Shape) (m : Machine) (found : ℕ) (y : Stage) (kind : Kind) (p : ℕ) (ok : Bool) → Parts (withdrawn_by s m found y) kind p ok → ⊥
-no_exit s m found (WithdrawsFrom row seen) kind p ok z = elim (found == seen) as (λ b. Parts (if b then WithdrawOf (granule_at s (row_of m row)) else Untouched) kind p ok → ⊥) [
-  | true ↦ λ z. z
-  | false ↦ λ z. z
-] z
-no_exit s m found _ kind p ok z = z
 
 -- the turn of this instruction, after which the machine is that one, is a check
 pub data IsCheckBy (s : Shape) (m m' : Machine) (kind : Kind) (p : ℕ) (ok : Bool) (i : Instr) : Type 0 where

@@ -1,5 +1,5 @@
 -- What a thread was given to begin with, its function and its argument, no turn writes once the thread is started.
-use Rattle.sharc_history_laws.proofs.{Imports.{◌≡◌, ℕ, ◌<◌, ◌≢◌, List, Option, Some, None, refl, sym, ap, ◌∙◌, subst, arith, get_or-set_other, slice_index, THREADS, WordStep, WordEvent, word_after, words_after_step, Code, Instr, Shape, state_word, function_word, argument_word, Machine, StepTurn as Act, Local, Asks, step_of, word, instr_at, turn, asked_by, words_now, World, Heap, StageStands, inl, inr, Stage, Names, Hands, drawn_of, Aim, TurnAim, TurnsAim}, Tables.step_leaves, Aims.{drawn_is, typed_aim}}
+use Rattle.sharc_history_laws.proofs.{Imports.{◌≡◌, ℕ, ◌<◌, ◌≢◌, List, Option, Some, None, refl, sym, ap, ◌∙◌, subst, arith, get_or-set_other, slice_index, THREADS, WordStep, WordEvent, word_after, words_after_step, Code, Instr, Shape, state_word, function_word, argument_word, Machine, StepTurn as Act, Local, Asks, instr_at, turn, asked_by, words_now, World, Heap, StageStands, inl, inr, Stage, Names, Hands, drawn_of, Aim, TurnAim, TurnsAim}, Tables.step_leaves, Aims.{drawn_is, typed_aim}}
 use Rattle.sharc_code.specs.Runs as Runs
 
 -- a step that leaves its word, or is on another than these two of thread n

@@ -1,5 +1,5 @@
 -- An object to which a stopped thread refers is neither cleared, given nor freed by another one.
-use Rattle.sharc_history_laws.proofs.{Imports.{◌≡◌, ℕ, ◌+◌, ◌*◌, ◌<◌, ◌≢◌, true, false, List, ◌∷◌, Some, None, if◌then◌else◌, refl, sym, ◌∙◌, subst, ⊎_elim, cases_eq, ◌==◌, Code, Instr, Shape, Stage, Clears, FreeClears, Uncounts, WithdrawsFrom, granule_at, ref, row_of, data_granule, Turn, result_of, place_after, Untouched, ClearOf, WithdrawOf, cleared_by, freed_by, withdrawn_by, touch_of, Labels, IsOn, touch_at, State, StageStands, OnHold, Targets, World}, TurnAt.{turn_at, RunOf}, Acts.{given_at, freed_in, freed_at}, Cleared.{IsAlone, some, live as live_one, no_other, object_one, alone_clear, alone_free, alone_give, clear_inside, free_inside}, Shadows.at_low, Staying.{StillThere, kept, kept_globals}, Wholes.{TheLaws, Typed, Whole, fresh_of}}
+use Rattle.sharc_history_laws.proofs.{Imports.{◌≡◌, ℕ, ◌+◌, ◌*◌, ◌<◌, ◌≢◌, true, false, List, ◌∷◌, Some, None, if◌then◌else◌, refl, sym, ◌∙◌, subst, ⊎_elim, cases_eq, ◌==◌, Code, Instr, Shape, Stage, Clears, FreeClears, Uncounts, WithdrawsFrom, granule_at, ref, row_of, data_granule, Turn, result_of, place_after, Untouched, ClearOf, WithdrawOf, cleared_by, freed_by, withdrawn_by, touch_of, Labels, IsOn, touch_at, StageStands, OnHold, Targets, at_low}, TurnAt.{turn_at, RunOf}, Acts.{given_at, freed_in, freed_at}, Cleared.{IsAlone, some, live as live_one, no_other, object_one, alone_clear, alone_free, alone_give, clear_inside, free_inside}, Staying.{StillThere, kept, kept_globals}, Wholes.{TheLaws, Typed, Whole, fresh_of}}
 
 module _ (laws : TheLaws) (x : Targets) (code : Code) (s : Shape) (ls : Labels) (typed : Typed x code s ls) (one : Turn) (earlier : List Turn) (run : RunOf code s (one ∷ earlier)) (w : Whole x code s ls earlier)
     (o k : ℕ) (live : (w.consists.world.obj o).live ≡ true) (inside : 2 * k < w.consists.state.cells o) (v : ℕ) (ne : v ≢ one.thread) (hold : OnHold ((place_after code s earlier).threads v).own.stage)

@@ -1,6 +1,6 @@
 -- A mutex that is locked by the events is in a held log; and what a Spawn has given a thread that has had no event is
 -- the argument that it is to read.
-use Rattle.sharc_history_laws.proofs.{Imports.{◌≡◌, ◌≢◌, ℕ, ℤ, pos, zero, suc, ◌^◌, ◌<◌, ◌≤◌, ◌⊎◌, inl, inr, ⊎_elim, Bool, true, false, not, ◌&&◌, length, List, [], ◌∷◌, ◌++◌, reverse, Some, if◌then◌else◌, refl, sym, ap, ◌∙◌, subst, arith, eqb-true, append_assoc, and_parts, cases_lt, or_right, nat_tests, get_or_append_left, get_or_push, length_push, Any, Contains, slice_index, nat_lt, ◌==◌, list_any, THREADS, Act, CellAt, Object, SourceEvent, HeldMutex, object_of, Resolution, Code, Shape, Fits, state_word, function_of, reference_of, Turn, reference, started_with, place_after, Parameter, table_of, events_of, is_null, refers, IsNewThread, MayCome, is_locked, is_natural, is_spawn, spawns, was_spawned, Targets, Labels, IsWellTyped, ArgumentOf, In, argument_of, if_reference, is_unread, log_refers, CellsAreThere, history_of, is_about_waiters, same_is, is_below as below, yes}, Finds.{low_slot, same_object}, Holding.any_push, Lists.{Newest, reverse_push}, Locked.{IsIn, NamesIn, contains}, Mutual.locked_is, Rules.newest, Started.{Begun, IsStart, SpawnedIn, Unheard, WasGiven, argument_given, function_given, unheard, chosen}, Stored.{EachMayCome, Stored}, Threaded.or_left}
+use Rattle.sharc_history_laws.proofs.{Imports.{◌≡◌, ◌≢◌, ℕ, ℤ, pos, zero, suc, ◌^◌, ◌<◌, ◌≤◌, ◌⊎◌, inl, inr, ⊎_elim, Bool, true, false, not, ◌&&◌, length, List, [], ◌∷◌, ◌++◌, reverse, Some, if◌then◌else◌, refl, sym, ap, ◌∙◌, subst, arith, eqb-true, append_assoc, and_parts, cases_lt, or_right, nat_tests, get_or_append_left, get_or_push, length_push, Any, slice_index, nat_lt, ◌==◌, list_any, THREADS, Act, CellAt, Object, SourceEvent, HeldMutex, object_of, Resolution, Code, Shape, Fits, state_word, function_of, reference_of, Turn, reference, started_with, place_after, Parameter, table_of, events_of, is_null, refers, IsNewThread, MayCome, is_locked, is_natural, is_spawn, spawns, was_spawned, Targets, Labels, IsWellTyped, ArgumentOf, In, argument_of, if_reference, is_unread, log_refers, CellsAreThere, history_of, is_about_waiters, same_is, is_below as below, yes}, Finds.{low_slot, same_object}, Holding.any_push, Lists.{Newest, Each, reverse_push}, Locked.{IsIn, NamesIn, contains}, Mutual.locked_is, Rules.newest, Started.{Begun, IsStart, SpawnedIn, Unheard, WasGiven, argument_given, function_given, unheard, chosen}, Stored.{MayComeNow, Stored}, Threaded.or_left}
 use Rattle.sharc_meaning.specs.Reference as Reference
 
 -- ---- held logs
@@ -48,7 +48,7 @@ abbrev FreshSpawns : Newest → Type 0
 FreshSpawns [] = Unit {0}
 FreshSpawns (e ∷ L) = ((f : ℕ) (v : ℤ) → e.act ≡ Act.Spawn f v → IsNewThread (reverse L) e.answer) × FreshSpawns L
 
-fresh_spawns : (r : Resolution) (L : Newest) → EachMayCome r (reverse L) → FreshSpawns L
+fresh_spawns : (r : Resolution) (L : Newest) → Each (MayComeNow r) (reverse L) → FreshSpawns L
 fresh_spawns r [] all = tt
 fresh_spawns r (e ∷ L) all = (
   λ f v is. subst (MayCome r (reverse L) e) is (all (reverse L) e [] (reverse_push e L) (ap is_about_waiters is)),

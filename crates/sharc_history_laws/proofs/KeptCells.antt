@@ -1,6 +1,5 @@
 -- A pointer cell that refers to an object by the events does so by the words, but where a Free empties its object.
 use Rattle.sharc_history_laws.proofs.{Imports.{◌≡◌, ℕ, ◌^◌, ◌<◌, ◌⊎◌, inl, inr, true, List, sym, ◌∙◌, subst, ⊎_elim, slice_index, CellAt, Resolution, Code, Shape, RunLaws, Fits, Machine, opening_words, Turn, Global, IsRun, opening_of, one_thread, bounds, place_after, table_of, refers, value_after, Targets, Labels, IsWellTyped, CellOf, ObjectState, IsSmall, first_world, first_place, objects_after, is_pointer_now, cell_refers, Keeps, CodeBegins, CellsAreThere, PointersAreThere, AccessesAreAllowed, StateStands, history_of, IsBeingFreed, IsCellIn, BeginsWith}, Contents.{newest_value, value_held, content_of, word_of_cell}, Emptying.IsEmptied, Finds.low_slot, Kept.referred, Rules.newest, SeenCells.{Seen, seen, cell, freed, inside, is_pointer_cell, live, number, pointer, told_there, word, word_is}, Shared.number_of, Unwritten.pointer_value}
-use Rattle.sharc_invariant.specs.Words as Words
 
 module _ (state_law : StateStands) (cell_laws : CellsAreThere) (x : Targets) (code : Code) (s : Shape) (ls : Labels) (wt : IsWellTyped x code ls) (fits : Fits code s) (r : Resolution)
     (run : List Turn) (k : Seen r x code s ls run) (p i : ℕ) (is : is_pointer_now x s (place_after code s run) k.consists.world.obj p i ≡ true) where

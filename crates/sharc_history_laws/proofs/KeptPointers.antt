@@ -1,5 +1,5 @@
 -- Which cells are pointers: those that are by the source, and refer to an object by the events, are so by the words.
-use Rattle.sharc_history_laws.proofs.{Imports.{◌≡◌, ◌≢◌, ℕ, pos, ◌+◌, ◌-◌, ◌*◌, ◌<◌, ◌≤◌, ◌⊎◌, inl, inr, Bool, true, false, ◌&&◌, List, [], ◌∷◌, reverse, Option, Some, None, refl, sym, ap, ◌∙◌, subst, ⊎_elim, arith, cases_Bool, cases_lt, lt-ltb, nat_tests, reverse-append, nat_lt, ◌==◌, Object, SourceEvent, Resolution, Code, Shape, RunLaws, Fits, Machine, opening_words, IsInGlobal, first_cell_of, Turn, Global, IsRun, result_of, opening_of, one_thread, bounds, place_after, said_now, table_of, latest, makes, made_by, refers, initial_value, is_live, value_after, Targets, Field, field_in, field_of_cell, global_field, globals_target, is_pointer, Labels, IsWellTyped, ObjectState, World, IsSmall, State, first_world, first_place, objects_after, cells_now, is_pointer_now, Keeps, CodeBegins, CellsAreThere, PointersAreThere, AccessesAreAllowed, StateStands, history_of, Grows, BeginsWith, yes, same_is as eq_refl}, Acts.made_said, Consists.{Consists, headed, live_not_built}, Contents.value_is, MadeOf.{MadeInRun, lives_in, made_in, pointers_made, some_made}, Rules.{newest, newest_now, pushed, about_now, decide, number_not}, SeenCells.{Seen, seen, cells_are}}
+use Rattle.sharc_history_laws.proofs.{Imports.{◌≡◌, ◌≢◌, ℕ, pos, ◌+◌, ◌-◌, ◌*◌, ◌<◌, ◌≤◌, ◌⊎◌, inl, inr, Bool, true, false, ◌&&◌, List, [], ◌∷◌, reverse, Option, Some, None, refl, sym, ap, ◌∙◌, subst, ⊎_elim, arith, cases_Bool, cases_lt, lt-ltb, reverse-append, nat_lt, ◌==◌, Object, SourceEvent, Resolution, Code, Shape, RunLaws, Fits, Machine, opening_words, IsInGlobal, first_cell_of, Turn, Global, IsRun, result_of, opening_of, one_thread, bounds, place_after, said_now, table_of, latest, makes, made_by, refers, initial_value, is_live, value_after, Targets, Field, field_in, field_of_cell, global_field, globals_target, is_pointer, Labels, IsWellTyped, ObjectState, IsSmall, first_world, first_place, objects_after, cells_now, is_pointer_now, Keeps, CodeBegins, CellsAreThere, PointersAreThere, AccessesAreAllowed, StateStands, history_of, Grows, BeginsWith, yes, same_is as eq_refl}, Acts.made_said, Consists.{Consists, headed, live_not_built}, Contents.value_is, MadeOf.{MadeInRun, lives_in, made_in, pointers_made, some_made}, Rules.{newest, newest_now, pushed, about_now, decide, number_not}, SeenCells.{Seen, seen, cells_are}}
 
 all_three : (a b c : Bool) → a ≡ true → b ≡ true → c ≡ true → (a && (b && c)) ≡ true
 all_three a b c p q r = ap (λ z. z && (b && c)) p ∙ ap (λ z. z && c) q ∙ r

@@ -1,5 +1,5 @@
 -- After a check was refused: the epoch of its granule stays, its object is there, and the notes and stops of the epoch are those that were there.
-use Rattle.sharc_history_laws.proofs.{Imports.{◌≡◌, ℕ, ◌+◌, ◌*◌, ◌/◌, ◌<◌, ◌≢◌, ◌⊎◌, inl, inr, true, false, List, [], ◌∷◌, ◌++◌, Option, Some, is_some, refl, sym, ap, ◌∙◌, subst, ⊎_elim, arith, cases_eq, nat_tests, ◌==◌, Kind, Write, Note, note_of, site_at, epoch_of, stands, Code, Cell, Shape, ConflictAt, Stop, Conflict, granules, Machine, ref, may_go, Turn, state_now, one_thread, place_after, Labels, OnHold, object_of_cell, number_in, Targets, yes}, TurnAt.{turn_at, RunOf}, Caused.{Report, the_report}, Checks.{CheckCell, check_cell, checked_here, hold as hold_check, adds, live_then, inside_then}, Consists.Consists, Keeping.{remains_there, uncleared}, Remaining.{word_at, site_now, StoppedAt, epoch_still, still_now, note_was, stop_was, refused, some_site}, Wholes.{TheLaws, Typed, Whole, whole, whole_next, fresh_of}, Carried.put_other}
+use Rattle.sharc_history_laws.proofs.{Imports.{◌≡◌, ℕ, ◌+◌, ◌*◌, ◌/◌, ◌<◌, ◌≢◌, ◌⊎◌, inl, inr, true, false, List, [], ◌∷◌, ◌++◌, Option, Some, is_some, refl, sym, ap, ◌∙◌, subst, ⊎_elim, arith, cases_eq, nat_tests, ◌==◌, Kind, Write, Note, note_of, site_at, epoch_of, stands, Code, Cell, Shape, ConflictAt, Stop, Conflict, granules, Machine, ref, may_go, Turn, state_now, one_thread, place_after, Labels, OnHold, object_of_cell, number_in, Targets, yes, put_other}, TurnAt.{turn_at, RunOf}, Caused.{Report, the_report}, Checks.{CheckCell, check_cell, checked_here, hold as hold_check, adds, live_then, inside_then}, Consists.Consists, Keeping.{remains_there, uncleared}, Remaining.{word_at, site_now, StoppedAt, epoch_still, still_now, note_was, stop_was, refused, some_site}, Wholes.{TheLaws, Typed, Whole, whole, whole_next, fresh_of}}
 
 module _ (laws : TheLaws) (x : Targets) (code : Code) (s : Shape) (ls : Labels) (typed : Typed x code s ls) where
   -- a thread that has stopped makes no turn

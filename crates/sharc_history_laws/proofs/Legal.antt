@@ -1,5 +1,5 @@
 -- The event of each turn of typed code may come after those before it, if it does not tell who waits.
-use Rattle.sharc_history_laws.proofs.{Imports.{◌≡◌, ℕ, ℤ, pos, negsuc, zero, suc, ◌+◌, ◌<◌, ◌≤◌, ◌≢◌, ◌⊎◌, inl, inr, Bool, true, false, ◌||◌, nat_lt, List, [], ◌∷◌, reverse, Option, Some, None, is_some, if◌then◌else◌, refl, sym, ap, ◌∙◌, subst, ⊎_elim, arith, eqb-true, ltb-true, nat_tests, not_true, slice_index, ◌==◌, Contains, THREADS, WordStep, WordOp, Act, SourceEvent, Trap, NewStage, waits_in, HeldMutex, object_of, Resolution, Code, Cell, Instr, Register, Shape, Stage, Makes, Uncounts, Begins, Enters, Withdraws, WithdrawsFrom, Leaves, Wakes, RunLaws, int_of, Fits, first_cell, state_word, Machine, step_of, int, ref, word, act, place, object, is_held, join, joined, trapped, Local, Asks, is_locking, turn, asked_by, Turn, MayTurn, said, cell_at, speaks_of, take_local, nobody, in_signal, in_exit, in_spawn, in_start, in_free, in_new, new_event, event_at, reference, one_thread, bounds, place_after, state_of, TellsState, is_about_waiters, MayFind, table_of, is_cell, locked_by, unlocked_by, History, MayCome, IsFresh, was_spawned, went, was_locked_by, value_after, Targets, Field, Labels, IsWellTyped, Accesses, is_ended, IsSmall, StageStands, OnHold, Keeps, CellsAreThere, PointersAreThere, AccessesAreAllowed, StateStands, yes}, TurnAt.{turn_at, told_at, turn_stands}, Consists.{Consists, found_is, quiet_is, own_turn, header_built, built_low, live_not_built}, Contents.{value_is, newest_value, value_held, content_of, word_of_cell, Contents}, Emptying.IsEmptied, Holding.{cell_eq, holds_in}, Lists.{Newest, live_in, is_live_in}, Living.LivesTold, Locked.{IsIn, LogTold, names_cell, one_place, held_told, contains}, Locking.word_is, Logged.{LogHas, is_logged}, Mutual.{Mutual, MayMutex, no_lock, locked_in, locked_by_in, locked_is, locked_by_is}, Mutexless.{mutex_said, no_mutex, not_locked}, Shared.number_of, Single.{single, rests_hold}, Sparing.is_value, Tables.header_of, Threaded.ThreadsTold, Unemptied.not_emptied}
+use Rattle.sharc_history_laws.proofs.{Imports.{◌≡◌, ℕ, ℤ, pos, negsuc, zero, suc, ◌+◌, ◌<◌, ◌≤◌, ◌≢◌, ◌⊎◌, inl, inr, Bool, true, false, ◌||◌, nat_lt, List, reverse, Option, Some, None, is_some, if◌then◌else◌, refl, sym, ap, ◌∙◌, subst, ⊎_elim, arith, eqb-true, ltb-true, nat_tests, not_true, slice_index, ◌==◌, THREADS, WordStep, WordOp, Act, SourceEvent, Trap, NewStage, waits_in, HeldMutex, object_of, Resolution, Code, Cell, Instr, Register, Shape, Stage, Makes, Uncounts, Begins, Enters, Withdraws, WithdrawsFrom, Leaves, Wakes, RunLaws, int_of, Fits, first_cell, state_word, Machine, step_of, int, ref, word, act, place, object, is_held, join, joined, trapped, Local, Asks, is_locking, turn, asked_by, Turn, MayTurn, said, cell_at, speaks_of, take_local, nobody, in_signal, in_exit, in_spawn, in_start, in_free, in_new, new_event, event_at, reference, one_thread, bounds, place_after, state_of, TellsState, is_about_waiters, MayFind, table_of, is_cell, locked_by, unlocked_by, History, MayCome, IsFresh, was_spawned, went, was_locked_by, value_after, Targets, Field, Labels, IsWellTyped, Accesses, is_ended, IsSmall, StageStands, OnHold, Keeps, CellsAreThere, PointersAreThere, AccessesAreAllowed, StateStands, yes, single}, TurnAt.{turn_at, told_at, turn_stands}, Consists.{Consists, found_is, quiet_is, own_turn, header_built, built_low, live_not_built}, Contents.{value_is, newest_value, value_held, content_of, word_of_cell, Contents}, Emptying.IsEmptied, Holding.{cell_eq, holds_in}, Lists.{Newest, live_in, is_live_in}, Living.LivesTold, Locked.{IsIn, LogTold, names_cell, one_place, held_told, contains}, Locking.word_is, Logged.{LogHas, is_logged}, Mutual.{Mutual, MayMutex, no_lock, locked_in, locked_by_in, locked_is, locked_by_is}, Mutexless.{mutex_said, no_mutex, not_locked}, Shared.number_of, Single.rests_hold, Sparing.is_value, Tables.header_of, Threaded.ThreadsTold, Unemptied.not_emptied}
 use Rattle.sharc_invariant.specs.Words as Words
 use Rattle.sharc_history_laws.proofs.Placed as Placed
 

@@ -1,5 +1,5 @@
 -- The mode of an access that a lock check is before names the mutex that the check looks for.
-use Rattle.sharc_history_laws.proofs.{Imports.{◌≡◌, ℕ, pos, zero, suc, ◌+◌, ◌-◌, ◌*◌, ◌<◌, ◌≤◌, ◌≢◌, Some, refl, sym, ap, ◌∙◌, subst, arith, slice_index_or, CellAt, CellMode, Code, PlaceMode, Cell, Shape, word_of, Fits, Machine, ref, int, IsInGlobal, Global, cell_at, global_cell, made_cell, mode_of, no_global, lock_through, IsThere, Targets, Lock, FieldLock, StaticType, ObjectType, cells_of, GlobalLock, Through, Self, OfType, OfGlobals, OfElement, Under, Refers, Element, OfElementCell, OfGlobal, Number, Anything, Label, Labels, LessNumber, SameReference, Itself, IsCopy, HasCopy, Copies, Chained, IsWellTyped, IsMutexOf, IsMode, IsTypeMode, IsLockMode, IsLockCell, IsTypeLock, IsSibling, HasBefore, no_lock, State, ElementStands, OnHold, types_at, IsOn, Within, Char, Int, Long, place, object}, TurnAt.thread_at, Stands.rn, Locked.{Names, some_ref, some_eq, names_one, names_cell, element_one, same_refs, number_of_global, number_of_element, same_type}}
+use Rattle.sharc_history_laws.proofs.{Imports.{◌≡◌, ℕ, pos, zero, suc, ◌+◌, ◌-◌, ◌*◌, ◌<◌, ◌≤◌, ◌≢◌, Some, refl, sym, ap, ◌∙◌, subst, arith, slice_index_or, CellAt, CellMode, Code, PlaceMode, Cell, Shape, word_of, Fits, Machine, ref, int, IsInGlobal, Global, cell_at, global_cell, made_cell, mode_of, no_global, lock_through, IsThere, Targets, Lock, FieldLock, StaticType, ObjectType, cells_of, GlobalLock, Through, Self, OfType, OfGlobals, OfElement, Under, Refers, Element, OfElementCell, OfGlobal, Number, Anything, Label, Labels, LessNumber, SameReference, Itself, IsCopy, HasCopy, Copies, Chained, IsWellTyped, IsMutexOf, IsMode, IsTypeMode, IsLockMode, IsLockCell, IsTypeLock, IsSibling, HasBefore, no_lock, State, ElementStands, OnHold, types_at, IsOn, place, object, less_number_refl}, TurnAt.thread_at, Stands.rn, Locked.{Names, some_ref, some_eq, names_one, names_cell, element_one, same_refs, number_of_global, number_of_element, same_type}}
 
 pub refers_eq : (a b : StaticType) → Refers a ≡ Refers b → a ≡ b
 refers_eq a b e = cc
@@ -157,18 +157,11 @@ module _ (x : Targets) (code : Code) (s : Shape) (ls : Labels) (wt : IsWellTyped
   lock_mode_now c d (OfElement field mutex) mode cell is there = ap (mode_of code m (cell_at code m c)) is.0 ∙ ap (λ c. CellMode.Locked (Some c)) (sibling_now c d field mutex cell is.1 there)
 
 -- ---- the mutex that the mode of an access names, by the label of the access
-less_itself : (n : Number) → LessNumber n n
-less_itself Anything = tt
-less_itself (Within Char) = tt
-less_itself (Within Int) = tt
-less_itself (Within Long) = tt
-less_itself _ = refl
-
 module _ (x : Targets) (code : Code) (s : Shape) (ls : Labels) (wt : IsWellTyped x code ls) (fits : Fits code s) (g : Global Machine) (world : Rattle.sharc_invariant.specs.World.World) (st : State x code s ls g world) (t : ℕ) (on : IsOn g t) (hold : OnHold (g.threads t).own.stage) where
   open thread_at st t use {m, here}
 
   pub mutex_names : (c d : Cell) (lock : FieldLock) (mode : PlaceMode) (mutex : CellAt) → IsMutexOf code here lock c d → IsMode code here c (Under lock) mode → mode_of code (g.threads t) (cell_at code (g.threads t) c) mode ≡ CellMode.Locked (Some mutex) → IsThere code (g.threads t) d
       → Names code mutex (object (g.threads t) d) (place (g.threads t) d)
   mutex_names c d lock mode mutex cell is e there =
-      let named = lock_mode_now x code s ls wt fits g world st t on hold here (λ r. IsCopy refl) (λ i. less_itself (here.ints i)) c d lock mode cell is there in
+      let named = lock_mode_now x code s ls wt fits g world st t on hold here (λ r. IsCopy refl) (λ i. less_number_refl (here.ints i)) c d lock mode cell is there in
       subst (λ c. Names code c (object m d) (place m d)) (some_eq (cell_at code m d) mutex (sym named ∙ e)) (names_cell code m d there)

@@ -1,5 +1,5 @@
 -- The held logs of threads are those that their events tell, so an access under a lock comes while the thread holds the mutex.
-use Rattle.sharc_history_laws.proofs.{Imports.{◌≡◌, ℕ, zero, suc, ◌+◌, ◌<◌, ◌≢◌, ◌⊎◌, inl, Bool, true, false, not, ◌||◌, ◌&&◌, length, List, [], ◌∷◌, ◌++◌, reverse, Option, Some, None, if◌then◌else◌, refl, sym, ap, ◌∙◌, subst, ⊎_elim, arith, cases_eq, nat_tests, nat_lt, ◌==◌, Act, SourceEvent, CellAt, Object, CellMode, HeldMutex, with_mutex, without, Code, PlaceMode, Cell, Instr, Shape, RunLaws, Fits, first_cell, words_of, cell_of, Machine, place, object, word, is_held, taken, act, locked, goes, fails, opening_words, is_locking, turn, after, Turn, Global, IsRun, MayTurn, after_turn, put, state_now, result_of, opening_of, one_thread, bounds, place_after, said, cell_at, mode_of, place_at, event_at, lock_through, said_now, IsMutex, table_of, Access, same_object, same_cell, is_cell, locks, unlocks, is_of, History, IsAccess, Targets, FieldMode, Labels, IsWellTyped, MayAccess, IsMode, IsSmall, GateStands, OnHold, Keeps, CodeBegins, CellsAreThere, PointersAreThere, AccessesAreAllowed, history_of, is_below, eqb-true, not_true, is_access}, TurnAt.{turn_at, told_at, turn_stands}, Single.rests_hold, Stands.gate, Finds.{mutex_cell, pending_apart}, Consists.Consists, Acts.{access_said, thread_said, no_access, access_at, IsAccess as TellsAccess, access_of}, Lists.{Newest, Each, OfAccess, no_event}, Rules.{over_runs, pushed, newest, number_is, about_now, hold_access, each_pushed}, Holding.{cell_eq, holds_in, holds_other, holds_own}, Outcomes.logs, Mutexless.{mutex_said, no_mutex, not_locked}, Locked.{IsIn, in_append, in_without, Names, names_one, names_cell, one_place, LogTold, held_told, lock_eq, through_is}, Carried.{put_same, put_other}, LockModes.mutex_names}
+use Rattle.sharc_history_laws.proofs.{Imports.{◌≡◌, ℕ, zero, suc, ◌+◌, ◌<◌, ◌≢◌, ◌⊎◌, inl, Bool, true, false, not, ◌||◌, ◌&&◌, length, List, [], ◌∷◌, ◌++◌, reverse, Option, Some, None, if◌then◌else◌, refl, sym, ap, ◌∙◌, subst, ⊎_elim, arith, cases_eq, nat_tests, nat_lt, ◌==◌, Act, SourceEvent, CellAt, Object, CellMode, HeldMutex, with_mutex, without, Code, PlaceMode, Cell, Instr, Shape, RunLaws, Fits, first_cell, words_of, cell_of, Machine, place, object, word, is_held, taken, act, locked, goes, fails, opening_words, is_locking, turn, after, Turn, IsRun, MayTurn, after_turn, put, state_now, result_of, opening_of, one_thread, bounds, place_after, said, cell_at, mode_of, place_at, event_at, lock_through, said_now, IsMutex, table_of, Access, same_object, same_cell, is_cell, locks, unlocks, is_of, History, IsAccess, Targets, FieldMode, Labels, IsWellTyped, MayAccess, IsMode, IsSmall, GateStands, OnHold, Keeps, CodeBegins, CellsAreThere, PointersAreThere, AccessesAreAllowed, history_of, is_below, eqb-true, not_true, is_access, put_same, put_other}, TurnAt.{turn_at, told_at, turn_stands}, Single.rests_hold, Stands.gate, Finds.{mutex_cell, pending_apart}, Consists.Consists, Acts.{access_said, thread_said, no_access, access_at, IsAccess as TellsAccess, access_of}, Lists.{Newest, Each, OfAccess, no_event}, Rules.{over_runs, pushed, newest, number_is, about_now, hold_access, each_pushed}, Holding.{cell_eq, holds_in, holds_other, holds_own}, Outcomes.logs, Mutexless.{mutex_said, no_mutex, not_locked}, Locked.{IsIn, in_append, in_without, Names, names_one, names_cell, one_place, LogTold, held_told, lock_eq, through_is}, LockModes.mutex_names}
 
 object_refl : (a : Object) → same_object a a ≡ true
 object_refl (Object.Global g) = let e : (g == g) ≡ true = grind (arith, nat_tests) in e

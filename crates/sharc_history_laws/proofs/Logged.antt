@@ -1,5 +1,5 @@
 -- What a thread holds by its events is in its held log, so where a lock check is refused it does not hold the mutex.
-use Rattle.sharc_history_laws.proofs.{Imports.{◌≡◌, ℕ, zero, suc, ◌+◌, ◌<◌, ◌⊎◌, inl, inr, Bool, true, false, not, cond, ◌||◌, ◌&&◌, length, List, [], ◌∷◌, ◌++◌, reverse, Option, Some, None, is_some, if◌then◌else◌, refl, sym, ap, ◌∙◌, subst, ⊎_elim, arith, eqb-true, cases_eq, nat_tests, nat_lt, ◌==◌, Act, SourceEvent, CellAt, HeldMutex, with_mutex, without, object_of, Code, Cell, Instr, Shape, NoLock, RunLaws, Fits, first_cell, words_of, cell_of, cell_word, Machine, ref, place, object, word, is_held, is_of_null, taken, act, stopped, MayStop, turn, after, may_go, Turn, Global, MayTurn, after_turn, put, state_now, result_of, one_thread, bounds, place_after, said, cell_at, made_cell, said_now, MayFind, IsLock, IsMutex, IsApart, IsFree, table_of, same_cell, is_cell, locks, unlocks, is_of, Targets, Labels, IsWellTyped, IsSmall, Keeps, CodeBegins, CellsAreThere, PointersAreThere, AccessesAreAllowed, IsLockCheck, LacksLock, is_below, yes, not_true}, TurnAt.{RunOf, turn_at, told_at}, Consists.{Consists, own_turn}, Lists.Newest, Rules.{over_runs, pushed, newest}, Holding.{cell_eq, holds_in, holds_other, holds_own}, Mutexless.{mutex_said, not_locked}, Locked.{IsIn, all_in, Names, names_one, names_cell, one_place}, Locking.{cell_refl, is_own, is_others, word_is, lock_event, unlock_event, log_then}, Outcomes.{reports, halts}, Sole.stop_none, Threaded.{ThreadsTold, threads_then, nobody_yet}, Carried.{put_same, put_other}}
+use Rattle.sharc_history_laws.proofs.{Imports.{◌≡◌, ℕ, zero, suc, ◌+◌, ◌<◌, ◌⊎◌, inl, inr, Bool, true, false, not, cond, ◌||◌, ◌&&◌, length, List, [], ◌∷◌, ◌++◌, reverse, Option, Some, None, is_some, if◌then◌else◌, refl, sym, ap, ◌∙◌, subst, ⊎_elim, arith, eqb-true, cases_eq, nat_tests, nat_lt, ◌==◌, Act, SourceEvent, CellAt, HeldMutex, with_mutex, without, object_of, Code, Cell, Instr, Shape, NoLock, RunLaws, Fits, first_cell, words_of, cell_of, cell_word, Machine, ref, place, object, word, is_held, is_of_null, taken, stopped, MayStop, turn, after, may_go, Turn, MayTurn, after_turn, put, state_now, result_of, one_thread, bounds, place_after, said, cell_at, made_cell, said_now, MayFind, IsLock, IsMutex, IsApart, IsFree, table_of, same_cell, is_cell, locks, unlocks, is_of, Targets, Labels, IsWellTyped, IsSmall, Keeps, CodeBegins, CellsAreThere, PointersAreThere, AccessesAreAllowed, IsLockCheck, LacksLock, is_below, yes, not_true, put_same, put_other}, TurnAt.{RunOf, turn_at, told_at}, Consists.{Consists, own_turn}, Lists.Newest, Rules.{over_runs, pushed, newest}, Holding.{cell_eq, holds_in, holds_other, holds_own}, Mutexless.{mutex_said, not_locked}, Locked.{IsIn, all_in, Names, names_one, names_cell, one_place}, Locking.{cell_refl, is_own, is_others, word_is, lock_event, unlock_event, log_then}, Outcomes.{reports, halts}, Sole.stop_none, Threaded.{ThreadsTold, threads_then, nobody_yet}}
 
 pub above : (n : ℕ) → (n == 0) ≡ false → 0 < n
 above zero e = absurd (yes e)

@@ -1,5 +1,5 @@
 -- The pointer cells of a made object are those that its last New made pointers.
-use Rattle.sharc_history_laws.proofs.{Imports.{◌≡◌, ℕ, ◌%◌, ◌<◌, ◌≢◌, true, false, cond, length, List, [], ◌∷◌, Option, Some, None, refl, sym, ap, ◌∙◌, subst, ⊎_elim, arith, cases_eq, find, slice_index_or, SourceEvent, Object, NewView, NewStage, Code, Instr, Shape, Stage, Makes, RunLaws, Fits, ref, opening_words, Turn, IsRun, MayTurn, result_of, opening_of, said, in_new, new_event, place_at, one_thread, bounds, place_after, said_now, table_of, latest, makes, is_number, is_live, Targets, StaticType, Field, Content, Integer, MutexWord, Waiters, Pointer, cells_of, field_at, field_of_cell, field_in, is_pointer, no_field, Label, Labels, IsWellTyped, IsSameContent, Recasts, ObjectState, first_world, first_place, objects_after, objects_behind, objects_now, IsSmall, Keeps, CodeBegins, CellsAreThere, PointersAreThere, AccessesAreAllowed, history_of, yes}, TurnAt.{turn_at, told_at}, Acts.{About, made_said, given_at, freed_at}, Born.{fine as new_fine, target_is as new_target}, Consists.{Consists, consists_then, objects_then, at_first, none_live, given}, Lists.{Newest, latest_is, is_live_in}, Living.{LivesTold, lives_told}, Rules.{over_runs, pushed, newest, newest_now, about_now, number_yes, number_not, same_behind, freed_gone, decide}, Tables.{header_at, header_in, header_of, was_live}, Valued.header_some, Values.{field_is, fine as give_fine, old_target, new_target as cast_target}}
+use Rattle.sharc_history_laws.proofs.{Imports.{◌≡◌, ℕ, ◌%◌, ◌<◌, ◌≢◌, true, false, cond, length, List, [], ◌∷◌, Option, Some, None, refl, sym, ap, ◌∙◌, subst, ⊎_elim, arith, cases_eq, find, slice_index_or, SourceEvent, Object, NewView, NewStage, Code, Instr, Shape, Stage, Makes, RunLaws, Fits, ref, opening_words, Turn, IsRun, MayTurn, result_of, opening_of, said, in_new, new_event, place_at, one_thread, bounds, place_after, said_now, table_of, latest, makes, is_number, is_live, Targets, StaticType, Field, Content, Integer, MutexWord, Waiters, Pointer, cells_of, field_at, field_of_cell, field_in, is_pointer, no_field, Label, Labels, IsWellTyped, IsSameContent, Recasts, ObjectState, first_world, first_place, objects_after, objects_behind, objects_now, IsSmall, Keeps, CodeBegins, CellsAreThere, PointersAreThere, AccessesAreAllowed, history_of, yes}, TurnAt.{turn_at, told_at}, Acts.{About, made_said, given_at, freed_at}, Born.{fine as new_fine, target_is as new_target}, Consists.{Consists, consists_then, objects_then, none_live, given}, Lists.{Newest, latest_is, is_live_in}, Living.{LivesTold, lives_told}, Rules.{over_runs, pushed, newest, about_now, number_yes, number_not, same_behind, freed_gone, decide}, Tables.{header_at, header_in, header_of, was_live}, Valued.header_some, Values.{field_is, fine as give_fine, old_target, new_target as cast_target}}
 use Rattle.sharc_invariant.specs.Types.{row_of}
 
 -- ---- the last New of an object

@@ -1,5 +1,5 @@
 -- In each run of typed code the cells of an object keep their modes until it is given or freed.
-use Rattle.sharc_history_laws.proofs.{Imports.{◌≡◌, ℕ, ◌+◌, ◌-◌, ◌*◌, ◌<◌, ◌≢◌, ◌⊎◌, inl, inr, true, false, ◌||◌, List, [], ◌∷◌, reverse, Option, Some, None, refl, sym, ap, ◌∙◌, subst, ⊎_elim, cases_eq, get_or-set_other, slice_index, WordStep, WordEvent, word_after, words_after_step, Act as SourceAct, SourceEvent, CellAt, CellMode as EventMode, Object, Code, Cell, Shape, RunLaws, Fits, StepTurn as Act, Local, Asks, opening_words, turn, asked_by, Turn, Global, IsRun, MayTurn, after_turn, result_of, words_now, opening_of, one_thread, bounds, place_after, said, cell_at, made_cell, place_at, said_now, table_of, Access, makes, gives, begins, frees, is_number, IsAccess, Targets, Field, FieldMode, cells_of, field_in, mode_in, mode_at, is_pointer, lock_number, OfType, Labels, IsWellTyped, CellOf, World, ObjectState, lang_of, has_returned, Closing, Without, changes_objects, IsSmall, OnHold, object_of_cell, number_in, size_of_run, IsOn, Keeps, CodeBegins, CellsAreThere, PointersAreThere, AccessesAreAllowed, StateStands, history_of, or_first, yes, or_second, is_access}, TurnAt.{turn_at, told_at}, Stands.gate, Tables.{header_of, length_kept, step_leaves}, Writes.writes, Sparing.{Spares, SparesTurn, Leaves, Elsewhere, Had}, Unwritten.spares, Consists.{Consists, consists_then, objects_then, effect_then}, Acts.{access_said, given_at, freed_at, About, no_access, access_at, IsAccess as TellsAccess, access_of}, Lists.{Newest, Each, OfAccess, no_event}, Rules.{over_runs, pushed, newest, about_now, hold_access, cell_is, same_behind, number_yes, each_pushed}, Shared.{number_of, closing_own, some_closing, not_sole, unless_given, unless_made}, Carried.without_carried, Locked.Names, OneMode.{ModeBy, ModeOf, place_of, one_by, mode_now, numbers_now}, Since.{IsTo, Since, AsBefore, as_before}}
+use Rattle.sharc_history_laws.proofs.{Imports.{◌≡◌, ℕ, ◌+◌, ◌-◌, ◌*◌, ◌<◌, ◌≢◌, ◌⊎◌, inl, inr, true, false, ◌||◌, List, ◌∷◌, reverse, Option, Some, None, refl, sym, ap, ◌∙◌, subst, ⊎_elim, cases_eq, get_or-set_other, slice_index, WordStep, WordEvent, word_after, words_after_step, Act as SourceAct, SourceEvent, CellAt, CellMode as EventMode, Object, Code, Cell, Shape, RunLaws, Fits, StepTurn as Act, Local, Asks, opening_words, turn, asked_by, Turn, IsRun, MayTurn, after_turn, result_of, words_now, opening_of, one_thread, bounds, place_after, said, cell_at, made_cell, place_at, said_now, table_of, Access, makes, gives, begins, frees, is_number, IsAccess, Targets, Field, FieldMode, cells_of, field_in, mode_in, mode_at, is_pointer, lock_number, OfType, Labels, IsWellTyped, CellOf, World, ObjectState, lang_of, has_returned, Closing, Without, changes_objects, IsSmall, OnHold, object_of_cell, number_in, size_of_run, IsOn, Keeps, CodeBegins, CellsAreThere, PointersAreThere, AccessesAreAllowed, StateStands, history_of, or_first, yes, or_second, is_access}, TurnAt.{turn_at, told_at}, Stands.gate, Tables.{header_of, length_kept, step_leaves}, Writes.writes, Sparing.{Spares, SparesTurn, Leaves, Elsewhere, Had}, Unwritten.spares, Consists.{Consists, consists_then, objects_then, effect_then}, Acts.{access_said, given_at, freed_at, About, no_access, access_at, IsAccess as TellsAccess, access_of}, Lists.{Newest, Each, OfAccess, no_event}, Rules.{over_runs, pushed, newest, about_now, hold_access, cell_is, same_behind, number_yes, each_pushed}, Shared.{number_of, closing_own, some_closing, not_sole, unless_given, unless_made}, Carried.without_carried, Locked.Names, OneMode.{ModeBy, ModeOf, place_of, one_by, mode_now, numbers_now}, Since.{IsTo, Since, AsBefore, as_before}}
 use Rattle.sharc_code.specs.Runs.{step_of}
 use Rattle.sharc_invariant.specs.Types.{CellMode}
 use Rattle.sharc_tree.specs.declared.event.Act.TheVariants as acts

@@ -1,5 +1,5 @@
 -- Each note in the access table of a thread is of a check that the thread made in the run, and that passed.
-use Rattle.sharc_history_laws.proofs.{Imports.{◌≡◌, ℕ, zero, suc, ◌+◌, ◌⊎◌, inl, inr, Bool, true, false, List, [], ◌∷◌, Some, None, is_some, if◌then◌else◌, refl, sym, ap, ◌∙◌, subst, ⊎_elim, cases_eq, get_or-set_other, slice_index, slice_index_or, slice_set, replicate, Kind, Read, Write, Note, GranuleNotes, blank, of_kind, note_of, site_at, epoch_of, bits_of, conflicts_in, noted, WordOp, Code, Cell, Instr, Shape, Conflict, granules, granule_at, granule_of, shadow_word, Machine, act, place, checked, stopped, with_own, wrote, step_of, TurnsComeOut, turn, after, may_go, asked_by, Turn, MayTurn, after_turn, state_now, result_of, one_thread, bounds, place_after, CheckOf, touch_of, site_of_check, IsNoted}, TurnAt.{turn_at, RunOf}, Conflicting.granule_same, Consists.found_is, Outcomes.{is_access_check, tabled}, Sole.by_last_turn, Doing.{set_most as set_at_most}, Carried.put_same}
+use Rattle.sharc_history_laws.proofs.{Imports.{◌≡◌, ℕ, zero, suc, ◌+◌, ◌⊎◌, inl, inr, Bool, true, false, List, [], ◌∷◌, Some, None, is_some, if◌then◌else◌, refl, sym, ap, ◌∙◌, subst, ⊎_elim, cases_eq, get_or-set_other, slice_index, slice_index_or, slice_set, replicate, Kind, Read, Write, Note, GranuleNotes, blank, of_kind, note_of, site_at, epoch_of, bits_of, conflicts_in, noted, WordOp, Code, Cell, Instr, Shape, Conflict, granules, granule_at, granule_of, shadow_word, Machine, act, place, checked, stopped, with_own, wrote, step_of, TurnsComeOut, turn, after, may_go, asked_by, Turn, MayTurn, after_turn, state_now, result_of, one_thread, bounds, place_after, CheckOf, touch_of, site_of_check, IsNoted, put_same}, TurnAt.{turn_at, RunOf}, Conflicting.granule_same, Consists.found_is, Outcomes.{is_access_check, tabled}, Sole.by_last_turn, Doing.set_most as set_at_most}
 use Rattle.sharc_heap.specs.{Notes.with_note, Accesses.Accesses}
 use Rattle.sharc_code.specs.Machine as machines
 

@@ -1,5 +1,5 @@
 -- To which place a turn of typed code leads: what holds of each way on holds of the turn.
-use Rattle.sharc_history_laws.proofs.{Imports.{◌≡◌, ℕ, ℤ, pos, negsuc, zero, suc, ◌+◌, ◌-◌, ◌<◌, Bool, true, false, not, ◌&&◌, ◌||◌, length, List, [], ◌∷◌, Some, if◌then◌else◌, refl, sym, ap, ◌∙◌, subst, ⊎_elim, arith, ◌==◌, nat_lt, Result, Ok, Err, slice_index_or, Trap, THREADS, WordOp, waits_in, Kind, Read, Write, epoch_of, conflicts_in, NewView, told, turn_of, NewTurn, Do, Made, HeapFull, Code, Cell, Register, Int, Long, Char, Instr, Shape, Stage, Looks, Clears, Makes, FreeLooks, FreeClears, Uncounts, Names, Hands, Begins, Wakes, Withdraws, WithdrawsFrom, Leaves, computed, negated, is_zero, holds, granule_at, granule_of, cell_of, cell_word, state_word, Machine, act, int, ref, goes, asserts, with_result, has_room, called, returned, holds_none, is_of_null, is_held, indexed, wrote, checked, lock_checked, raise, lower, test, tested, after_new, asks_new, new, new_state, elements_of, spawn, function_of, wakes, signal, is_positive, place, set_ref, accessed, move_ref, trapped, locked, joined, join, woken, word, Local, Asks, step_of, instr_at, no_frame, exit, withdraws, after, may_go, Gate, Closed, Checked, Holds, Sole, Number, Label, Labels, Leads, set_number, empty, forgets, gated, knows, Within, View, FramesStand, BelowStands, frame_at, IsWellTyped, Fine, Numbers, Passes_on, LeadsChecked, called_label, without_base_of, unlocked_label, handed_label, knows_base, Targets, yes}, Sorts.note_stage}
+use Rattle.sharc_history_laws.proofs.Imports.{◌≡◌, ℕ, ℤ, pos, negsuc, zero, suc, ◌+◌, ◌-◌, ◌<◌, Bool, true, false, not, ◌&&◌, ◌||◌, length, List, [], ◌∷◌, Some, if◌then◌else◌, refl, sym, ap, ◌∙◌, subst, ⊎_elim, arith, ◌==◌, nat_lt, Result, Ok, Err, slice_index_or, Trap, THREADS, WordOp, waits_in, Kind, Read, Write, epoch_of, conflicts_in, NewView, told, turn_of, NewTurn, Do, Made, HeapFull, Code, Cell, Register, Int, Long, Char, Instr, Shape, Stage, Looks, Clears, Makes, FreeLooks, FreeClears, Uncounts, Names, Hands, Begins, Wakes, Withdraws, WithdrawsFrom, Leaves, computed, negated, is_zero, holds, granule_at, granule_of, cell_of, cell_word, state_word, Machine, act, int, ref, goes, asserts, with_result, has_room, called, returned, holds_none, is_of_null, is_held, indexed, wrote, checked, lock_checked, raise, lower, test, tested, after_new, asks_new, new, new_state, elements_of, spawn, function_of, wakes, signal, is_positive, place, set_ref, accessed, move_ref, trapped, locked, joined, join, woken, word, Local, Asks, step_of, instr_at, no_frame, exit, withdraws, after, may_go, Gate, Closed, Checked, Holds, Sole, Number, Label, Labels, Leads, set_number, empty, forgets, gated, knows, Within, View, FramesStand, BelowStands, frame_at, IsWellTyped, Fine, Numbers, Passes_on, LeadsChecked, called_label, without_base_of, unlocked_label, handed_label, knows_base, Targets, yes, note_stage}
 use Rattle.sharc_code.specs.declared.instr.Instr.TheVariants.{SameReference, Lock}
 
 -- ---- stages in which granules are cleared

@@ -1,5 +1,5 @@
 -- No turn but that of a Start leads to the place where threads begin.
-use Rattle.sharc_history_laws.proofs.{Imports.{◌≡◌, ℕ, ◌*◌, ◌≢◌, zero, suc, ◌+◌, ◌<◌, ◌⊎◌, inl, inr, Bool, true, false, length, Some, None, if◌then◌else◌, refl, sym, ap, ◌∙◌, min, nat_lt, Code, Layout, Instr, Shape, Stage, Machine, act, ref, looks, clear, data_granules, free_looks, empties, emptied, free, layout_at, function_of, fields, largest, place, instr_at, after, Looks, Clears, Empties, Lowers, FreeLooks, FreeClears, Uncounts, Links, Label, Labels, Leads, View, FramesStand, IsWellTyped, Fine, Targets}, Onward.{Ways, onward}}
+use Rattle.sharc_history_laws.proofs.{Imports.{◌≡◌, ℕ, ◌*◌, ◌≢◌, zero, suc, ◌+◌, ◌<◌, ◌⊎◌, inl, inr, Bool, true, false, length, Some, None, if◌then◌else◌, refl, sym, ap, ◌∙◌, min, nat_lt, Code, Layout, Instr, Shape, Stage, Machine, act, ref, looks, clear, data_granules, free_looks, empties, emptied, free, layout_at, function_of, fields, largest, instr_at, after, Looks, Clears, Empties, Lowers, FreeLooks, FreeClears, Uncounts, Links, Label, Labels, Leads, View, FramesStand, IsWellTyped, Fine, Targets}, Onward.{Ways, onward}}
 
 -- after its turn the thread is at its place still, or at none where threads begin
 pub record Departs (m y : Machine) : Type 0 where

@@ -1,5 +1,5 @@
 -- Each access of a run of typed code is to a live object, by its owner where the cell is private, and no write under mode readonly.
-use Rattle.sharc_history_laws.proofs.{Imports.{◌≡◌, ℕ, ◌^◌, ◌<◌, ◌≢◌, ◌⊎◌, inl, inr, true, false, List, [], ◌∷◌, reverse, Option, Some, None, refl, sym, ap, ◌∙◌, subst, ⊎_elim, arith, cases_eq, nat_tests, ◌==◌, SourceEvent, CellMode, Object, NewStage, Code, Cell, Instr, Shape, Stage, Makes, Uncounts, RunLaws, Fits, Machine, ref, opening_words, Said, Turn, Global, IsRun, MayTurn, after_turn, put, result_of, with_told, opening_of, one_thread, bounds, place_after, Erase, said, cell_at, place_at, said_now, told_in, table_of, Access, makes, gives, frees, begins, is_number, made_by, given_by, History, IsAccess, is_owner, Targets, Field, FieldMode, field_in, mode_in, Labels, IsWellTyped, ObjectState, CanBy, lang_of, CellIsThere, objects_behind, made_behind, new_behind, freed_behind, objects_now, owned, gone, type_held, IsSmall, OnHold, object_of_cell, number_in, IsOn, Keeps, CodeBegins, CellsAreThere, PointersAreThere, AccessesAreAllowed, history_of, same_is as eq_refl, or_left, or_right, or_no, is_access}, TurnAt.{turn_at, told_at, turn_stands, RunOf}, Single.{single, rests_hold}, Stands.{live_low, known_ref, there, live_ref, sole_ref}, Tables.{header_at, header_in, header_of, was_live}, Consists.{Consists, consists_then, objects_then, given, header_built, built_low}, Acts.{access_said, thread_said, given_at, freed_in, freed_at, About, about, AreLow, no_access, access_at, IsAccess as TellsAccess, access_of}, Lists.{Newest, Each, OfAccess, no_event, each_push, live_in, owned_in, is_live_in, owned_is, live_made, live_other, owned_begun, owned_other}, Modes.{private_field, readonly_field}, Carried.{put_same, put_other}}
+use Rattle.sharc_history_laws.proofs.{Imports.{◌≡◌, ℕ, ◌^◌, ◌<◌, ◌≢◌, ◌⊎◌, inl, inr, true, false, List, [], ◌∷◌, reverse, Option, Some, None, refl, sym, ap, ◌∙◌, subst, ⊎_elim, arith, cases_eq, nat_tests, ◌==◌, SourceEvent, CellMode, Object, NewStage, Code, Cell, Instr, Shape, Stage, Makes, Uncounts, RunLaws, Fits, Machine, ref, opening_words, Said, Turn, IsRun, MayTurn, after_turn, put, result_of, with_told, opening_of, one_thread, bounds, place_after, Erase, said, cell_at, place_at, said_now, told_in, table_of, Access, makes, gives, frees, begins, is_number, made_by, given_by, History, IsAccess, is_owner, Targets, Field, FieldMode, field_in, mode_in, Labels, IsWellTyped, ObjectState, CanBy, lang_of, CellIsThere, objects_behind, made_behind, new_behind, freed_behind, objects_now, owned, gone, type_held, IsSmall, OnHold, object_of_cell, number_in, IsOn, Keeps, CodeBegins, CellsAreThere, PointersAreThere, AccessesAreAllowed, history_of, same_is as eq_refl, or_left, or_right, or_no, is_access, put_same, put_other, single}, TurnAt.{turn_at, told_at, turn_stands, RunOf}, Single.rests_hold, Stands.{live_low, known_ref, there, live_ref, sole_ref}, Tables.{header_at, header_in, header_of, was_live}, Consists.{Consists, consists_then, objects_then, given, header_built, built_low}, Acts.{access_said, thread_said, given_at, freed_in, freed_at, About, about, AreLow, no_access, access_at, IsAccess as TellsAccess, access_of}, Lists.{Newest, Each, OfAccess, no_event, each_push, live_in, owned_in, is_live_in, owned_is, live_made, live_other, owned_begun, owned_other}, Modes.{private_field, readonly_field}}
 use Rattle.sharc_meaning.specs.{Events.freed_by, Obeys.IsThere}
 
 -- ---- numbers of objects

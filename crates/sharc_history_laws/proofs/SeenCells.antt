@@ -1,5 +1,5 @@
 -- A pointer cell that refers to an object by the words does so by the events, but where a Free empties its object.
-use Rattle.sharc_history_laws.proofs.{Imports.{◌≡◌, ℕ, pos, zero, suc, ◌+◌, ◌*◌, ◌/◌, ◌^◌, ◌<◌, ◌≢◌, inl, inr, Bool, true, false, cond, not, ◌&&◌, List, [], refl, sym, ap, ◌∙◌, subst, ⊎_elim, arith, ltb-true, cases_Bool, and_parts, nat_tests, slice_index, nat_lt, ◌==◌, ◌%◌, CellAt, Object, Resolution, Code, Shape, RunLaws, Fits, granules, granule_at, words_of, first_cell, cell_word, cell_of, length_word, Machine, opening_words, IsInGlobal, Turn, Global, IsRun, result_of, opening_of, reference, one_thread, bounds, place_after, Elements, said_now, table_of, is_null, refers, value_after, Targets, Field, Content, Pointer, field_in, field_of_cell, global_field, globals_target, is_pointer, cells_of, Labels, IsWellTyped, CellOf, World, ObjectState, State, IsSmall, first_world, first_place, objects_after, objects_now, cells_now, is_pointer_now, cell_refers, Keeps, CodeBegins, CellsAreThere, PointersAreThere, AccessesAreAllowed, StateStands, history_of, BeginsWith, IsCellIn, IsLiveBy, IsBeingFreed, RefersBy, CellIsSeen, same_is as eq_refl, ne_zero}, Behind.{AreFirst, first_then}, Consists.{Consists, consists_then, objects_then, none_live}, Contents.{newest_value, value_is, value_held, IsCellOf, content_of, word_of_cell, Contents}, Emptying.IsEmptied, Lists.is_live_in, Locked.{Names, NamesIn}, OneMode.place_of, Opening.contents_first, Rules.{over_runs, ObjectsTold, newest, about_now, objects_told}, Shared.{number_of, some_closing}, Stands.live_low, Unemptied.on_hold, Unwritten.{emptying, pointer_value}, Valued.contents_then}
+use Rattle.sharc_history_laws.proofs.{Imports.{◌≡◌, ℕ, pos, zero, suc, ◌+◌, ◌*◌, ◌/◌, ◌^◌, ◌<◌, ◌≢◌, inl, inr, Bool, true, false, cond, not, ◌&&◌, List, refl, sym, ap, ◌∙◌, subst, ⊎_elim, arith, ltb-true, cases_Bool, and_parts, nat_tests, slice_index, nat_lt, ◌==◌, ◌%◌, CellAt, Object, Resolution, Code, Shape, RunLaws, Fits, granules, granule_at, cell_word, cell_of, length_word, Machine, opening_words, IsInGlobal, Turn, Global, IsRun, result_of, opening_of, reference, one_thread, bounds, place_after, Elements, said_now, table_of, is_null, refers, value_after, Targets, Field, Content, Pointer, field_in, field_of_cell, global_field, globals_target, is_pointer, cells_of, Labels, IsWellTyped, CellOf, World, ObjectState, State, IsSmall, first_world, first_place, objects_after, objects_now, cells_now, is_pointer_now, cell_refers, Keeps, CodeBegins, CellsAreThere, PointersAreThere, AccessesAreAllowed, StateStands, history_of, BeginsWith, IsCellIn, IsLiveBy, IsBeingFreed, RefersBy, CellIsSeen, same_is as eq_refl, ne_zero, cell_word_is}, Behind.{AreFirst, first_then}, Consists.{Consists, consists_then, objects_then, none_live}, Contents.{newest_value, value_is, value_held, IsCellOf, content_of, word_of_cell, Contents}, Emptying.IsEmptied, Lists.is_live_in, Locked.{Names, NamesIn}, OneMode.place_of, Opening.contents_first, Rules.{over_runs, ObjectsTold, newest, about_now, objects_told}, Shared.{number_of, some_closing}, Stands.live_low, Unemptied.on_hold, Unwritten.{emptying, pointer_value}, Valued.contents_then}
 use Rattle.sharc_invariant.specs.Words as Words
 
 -- ---- references
@@ -23,14 +23,6 @@ holds_reference _ T v e = absurd (cc)
 -- ---- words and numbers of cells
 pub length_is : (s : Shape) (o : ℕ) → o < granules s → length_word s o ≡ Words.length_at s o
 length_is s o lt = let e : nat_lt o (granules s) ≡ true = grind (arith, nat_tests) in let q : granule_at s o ≡ o = rw e refl in omega arith
-
-pub cell_word_is : (s : Shape) (o c : ℕ) → o + 1 + c / 2 < granules s → cell_word s (cell_of o c) ≡ Words.cell_at s o c
-cell_word_is s o c lt =
-    let w = first_cell s + cell_of o c in
-    let below : w < words_of s = omega arith in
-    let e : nat_lt w (words_of s) ≡ true = grind (arith, nat_tests) in
-    let q : cell_word s (cell_of o c) ≡ w = rw e refl in
-    q ∙ (let z : w ≡ Words.cell_at s o c = omega arith in z)
 
 -- so many cells an object has by its words
 module _ (x : Targets) (code : Code) (s : Shape) (ls : Labels) (g : Global Machine) (world : World) (st : State x code s ls g world) where

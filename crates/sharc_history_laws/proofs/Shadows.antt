@@ -1,6 +1,5 @@
 -- What a turn does to the shadow word of each granule.
-use Rattle.sharc_history_laws.proofs.{Imports.{◌≡◌, ℕ, zero, suc, ◌+◌, ◌*◌, ◌/◌, ◌%◌, ◌^◌, ◌<◌, ◌≤◌, ◌≢◌, Bool, true, false, length, List, [], ◌∷◌, Option, Some, None, if◌then◌else◌, min, refl, sym, ap, ◌∙◌, subst, ⊎_elim, arith, eqb-true, cases_eq, cases_lt, nat_tests, get_or-set_other, slice_index, nat_lt, bit_or, ◌==◌, Contains, THREADS, WordEvent, WordOp, WordStep, word_after, words_after_step, Kind, Read, Write, GranuleNotes, ListsNoted, is_noted, bits_of, cleared_of, withdrawn_of, ShadowLaws, epoch_of, is_written, stands, AddsAccess, WithdrawsWord, Code, Instr, Shape, Stage, Looks, Clears, FreeClears, WithdrawsFrom, Fits, granules, first_cell, first_shadow, granule_at, granule_of, shadow_word, Machine, StepTurn, Local, Asks, act, instr_at, step_of, ref, place, word, new, clear, free, layout_at, data_granules, data_granule, exit, row_of, without_own, withdrew, largest, wrote, turn, asked_by, may_go, Turn, Global, MayTurn, Answered, words_now, result_of, one_thread, bounds, Touch, Untouched, CheckOf, ClearOf, WithdrawOf, cleared_by, freed_by, withdrawn_by, touch_of, sum_to, Labels, touch_at, State, StageStands, OnHold, IsWellTyped, Targets, cells_of, World, set_here as set_at, same_or, inl, inr, drawn_of, Names, Hands, Begins, Aim, TurnAim, TurnsAim, changes_shadow, yes}, TurnAt.{turn_at, turn_stands}, Consists.found_is, Stands.{sole_ref, live_ref, target_ref}, Tables.step_leaves, Aims.{drawn_is, typed_aim}}
-use Rattle.sharc_heap.specs.Accesses.{Accesses}
+use Rattle.sharc_history_laws.proofs.{Imports.{◌≡◌, ℕ, suc, ◌+◌, ◌*◌, ◌%◌, ◌^◌, ◌<◌, ◌≤◌, ◌≢◌, Bool, true, false, Option, Some, None, if◌then◌else◌, refl, sym, ap, ◌∙◌, subst, ⊎_elim, arith, eqb-true, cases_eq, nat_tests, get_or-set_other, slice_index, bit_or, ◌==◌, THREADS, WordEvent, WordOp, WordStep, word_after, words_after_step, Kind, Read, Write, bits_of, cleared_of, withdrawn_of, ShadowLaws, epoch_of, is_written, stands, AddsAccess, WithdrawsWord, Code, Instr, Shape, Stage, Clears, FreeClears, WithdrawsFrom, Fits, granules, first_cell, first_shadow, granule_at, granule_of, shadow_word, Machine, StepTurn, Local, Asks, act, instr_at, step_of, ref, place, new, clear, free, layout_at, data_granules, data_granule, exit, row_of, without_own, withdrew, wrote, turn, asked_by, may_go, Turn, Global, MayTurn, Answered, words_now, result_of, one_thread, bounds, Touch, Untouched, CheckOf, ClearOf, WithdrawOf, cleared_by, freed_by, withdrawn_by, touch_of, sum_to, Labels, touch_at, State, StageStands, OnHold, IsWellTyped, Targets, cells_of, World, set_here as set_at, inl, inr, drawn_of, Names, Hands, Begins, Aim, TurnAim, TurnsAim, changes_shadow, yes, row_low, at_low, in_cells, sum_bound}, TurnAt.{turn_at, turn_stands}, Consists.found_is, Stands.{sole_ref, live_ref, target_ref}, Tables.step_leaves, Aims.{drawn_is, typed_aim}}
 use Rattle.sharc_code.specs.Runs as runs
 
 -- ---- words by what a turn is to them
@@ -26,30 +25,6 @@ data Spares (s : Shape) (step : WordStep) : Type 0 where
 abbrev SparesAll : Shape → StepTurn → Type 0
 SparesAll s (Local x) = Unit {0}
 SparesAll s (Asks step go) = Spares s step
-
--- ---- rows of the access table
-blank_past : (notes : List GranuleNotes) (p : ℕ) → length notes ≤ p → is_noted notes p ≡ false
-blank_past [] p le = refl
-blank_past (a ∷ notes) zero le = absurd (omega arith)
-blank_past (a ∷ notes) (suc p) le = blank_past notes p (omega arith)
-
-pub row_low : (table : Accesses) → ListsNoted table → (row : ℕ) → row < length table.order → slice_index table.order row < length table.notes
-row_low table lists row lt =
-    let p = slice_index table.order row in
-    let c : Contains table.order p = (row, lt, same_or table.order row p 0 lt) in
-    let n = lists.only p c in
-    ⊎_elim (λ (l : p < length table.notes). l) (λ (ge : length table.notes ≤ p). let z = blank_past table.notes p ge in let f : true ≡ false = sym n ∙ z in absurd (cc)) (cases_lt p (length table.notes))
-
--- ---- numbers
-pub at_low : (s : Shape) (p : ℕ) → p < granules s → granule_at s p ≡ p
-at_low s p lt = let e : nat_lt p (granules s) ≡ true = grind (arith, nat_tests) in ap (λ b. if b then p else 0) e
-
-sum_low : (n : ℕ) (f : ℕ → ℕ) → ((t : ℕ) → f t ≤ 100000000) → sum_to n f ≤ n * 100000000
-sum_low zero f few = omega arith
-sum_low (suc n) f few = let a = sum_low n f few in let b = few n in omega arith
-
-pub in_cells : (n done : ℕ) → done < (min n largest + 1) / 2 → 2 * done < n
-in_cells n done lt = omega arith
 
 -- ---- one turn
 module _ (aims : TurnsAim) (laws : ShadowLaws) (x : Targets) (code : Code) (s : Shape) (ls : Labels) (wt : IsWellTyped x code ls) (fits : Fits code s) (g : Global Machine) (world : World) (st : State x code s ls g world) (tr : Turn)
@@ -153,7 +128,7 @@ module _ (aims : TurnsAim) (laws : ShadowLaws) (x : Targets) (code : Code) (s : 
       let within = st.apart.within o done live inside in
       let rd = st.sim.shadows o done live inside in
       let q : granule_at s (data_granule o done) ≡ o + 1 + done = at_low s (o + 1 + done) within in
-      let made = sum_low THREADS g.made st.few in
+      let made = sum_bound THREADS 100000000 g.made st.few in
       let top = st.epochs (o + 1 + done) within in
       record {
         is = ep ∙ rd.epoch ∙ ap (λ p. epoch_of (old_word p)) (sym q);

@@ -1,5 +1,5 @@
 -- No access set of a run of typed code holds accesses of two threads of which one writes.
-use Rattle.sharc_history_laws.proofs.{Imports.{◌≡◌, ℕ, ◌+◌, ◌-◌, ◌*◌, ◌/◌, ◌≤◌, ◌≢◌, ◌⊎◌, inl, inr, Bool, true, false, ◌||◌, ◌&&◌, List, [], ◌∷◌, Option, Some, None, refl, sym, ap, ◌∙◌, subst, ⊎_elim, arith, cases_eq, nat_tests, ◌==◌, slice_index, slice_index_or, Act, SourceEvent, Object, CellMode, Code, Cell, Instr, Shape, Stage, Rests, Makes, Uncounts, Links, Withdraws, WithdrawsFrom, Leaves, RunLaws, Fits, Machine, instr_at, ref, place, act, opening_words, is_exit, turn, after, may_go, Turn, Global, IsRun, MayTurn, after_turn, put, state_now, result_of, opening_of, one_thread, bounds, place_after, said, cell_at, place_at, in_exit, no_global, said_now, table_of, Access, granule_in as granule_of, makes, gives, begins, is_of, access_by, until_return, ends, Passed, Targets, Field, FieldMode, Gate, Holds, Loaded, HoldsLoaded, Sole, Labels, IsWellTyped, IsNotSole, RegisterOf, ObjectState, Shut, IsSole, World, WinOk, in_ref, lang_of, has_returned, is_withdrawing, is_ended, Closing, Without, changes_objects, makes_object, frees_object, objects_behind, State, Runs, IsSmall, StageStands, GateStands, StopStands, OnHold, OnExit, object_of_cell, number_in, label_now, size_of_run, IsOn, MachineInvariant, IsAlone, WindowStands, label_of, Keeps, CodeBegins, CellsAreThere, PointersAreThere, AccessesAreAllowed, StateStands, yes, is_access, or_right, not_false}, TurnAt.{turn_at, told_at, turn_stands}, Single.rests_hold, Stands.{register_is, gate, reads_ref}, Finds.is_there, Tables.{header_of, was_live}, Consists.{Consists, consists_then, objects_then, effect_then, given}, Acts.{access_said, thread_said, given_at, freed_in, freed_at, About, no_access, access_at, IsAccess as TellsAccess, access_of}, Lists.Newest, Modes.dynamic_field, Rules.{over_runs, pushed, newest, number_is, about_now, hold_access, cell_is, can_mode, freed_gone, number_yes, access_single}, Sets.{IsHere, Goes, InSet, NoConflict, Clean}, Carried.{Stands, carried, put_same, put_other}, Outcomes.{unended, withdraws_still, going_on}, Threaded.or_left}
+use Rattle.sharc_history_laws.proofs.{Imports.{◌≡◌, ℕ, ◌+◌, ◌-◌, ◌*◌, ◌/◌, ◌≤◌, ◌≢◌, ◌⊎◌, inl, inr, Bool, true, false, ◌||◌, ◌&&◌, List, ◌∷◌, Option, Some, None, refl, sym, ap, ◌∙◌, subst, ⊎_elim, arith, cases_eq, nat_tests, ◌==◌, slice_index, slice_index_or, Act, SourceEvent, Object, CellMode, Code, Cell, Instr, Shape, Stage, Rests, Makes, Uncounts, Links, Withdraws, WithdrawsFrom, Leaves, RunLaws, Fits, Machine, instr_at, ref, place, act, is_exit, turn, after, may_go, Turn, Global, MayTurn, after_turn, put, state_now, result_of, one_thread, bounds, place_after, said, cell_at, place_at, in_exit, no_global, said_now, table_of, Access, granule_in as granule_of, makes, gives, begins, is_of, access_by, until_return, ends, Passed, Targets, Field, FieldMode, Gate, Holds, Loaded, HoldsLoaded, Sole, Labels, IsWellTyped, IsNotSole, RegisterOf, ObjectState, Shut, IsSole, World, WinOk, in_ref, lang_of, has_returned, is_withdrawing, is_ended, Closing, Without, changes_objects, makes_object, frees_object, objects_behind, State, Runs, IsSmall, StageStands, GateStands, StopStands, OnHold, OnExit, object_of_cell, number_in, label_now, size_of_run, IsOn, MachineInvariant, IsAlone, WindowStands, label_of, Keeps, CodeBegins, CellsAreThere, PointersAreThere, AccessesAreAllowed, StateStands, yes, is_access, or_right, not_false, put_same, put_other}, TurnAt.{RunOf, turn_at, told_at, turn_stands}, Single.rests_hold, Stands.{register_is, gate, reads_ref}, Finds.is_there, Tables.{header_of, was_live}, Consists.{Consists, consists_then, objects_then, effect_then, given}, Acts.{access_said, thread_said, given_at, freed_in, freed_at, About, no_access, access_at, IsAccess as TellsAccess, access_of}, Lists.Newest, Modes.dynamic_field, Rules.{over_runs, pushed, newest, number_is, about_now, hold_access, cell_is, can_mode, freed_gone, number_yes, access_single}, Sets.{IsHere, Goes, InSet, NoConflict, Clean}, Carried.{Stands, carried}, Outcomes.{unended, withdraws_still, going_on}, Threaded.or_left}
 
 -- ---- objects and granules as the world has them
 abbrev pub number_of : Object → ℕ
@@ -185,7 +185,7 @@ module _ (state_law : StateStands) (cell_laws : CellsAreThere) (pointers : Point
     -- the thread has not returned, and changes no object
     not_returned : has_returned ((place_after code s earlier).threads one.thread) ≡ false
     not_returned =
-        let rest : m.own.stage ≡ Rests = Rattle.sharc_history_laws.proofs.Single.single_rests code s h.state.elements world h.state.heap g.words t m i m.own.stage (access_single i access) rn.stage in
+        let rest : m.own.stage ≡ Rests = Rattle.sharc_invariant.proofs.Own.single_rests code s h.state.elements world h.state.heap g.words t m i m.own.stage (access_single i access) rn.stage in
         ap (λ y. is_withdrawing y || is_ended m.at.state) rest ∙ going_on m.at.state may.next.runs
 
     not_changing : changes_objects i ((place_after code s earlier).threads one.thread) ≡ true → ⊥
@@ -421,25 +421,18 @@ module _ (state_law : StateStands) (cell_laws : CellsAreThere) (pointers : Point
         (cases_eq u t)
 
 -- ---- runs
-pub record Shares (x : Targets) (code : Code) (s : Shape) (ls : Labels) (run : List Turn) : Type 0 where
-  pub consists : Consists x code s ls run
-  pub stands : (o : Object) (granule u : ℕ) (write : Bool) → InSet (newest code s run) o granule u write → Stands consists.world (number_of o) (index_of code o granule) u write
-  pub returned : (u : ℕ) → has_returned ((place_after code s run).threads u) ≡ true → (o : Object) (granule : ℕ) (write : Bool) → InSet (newest code s run) o granule u write → ⊥
-  pub clean : Clean (newest code s run)
+pub record Shares (x : Targets) (code : Code) (s : Shape) (ls : Labels) (run : List Turn) (h : Consists x code s ls run) (L : Newest) : Type 0 where
+  pub stands : (o : Object) (granule u : ℕ) (write : Bool) → InSet L o granule u write → Stands h.world (number_of o) (index_of code o granule) u write
+  pub returned : (u : ℕ) → has_returned ((place_after code s run).threads u) ≡ true → (o : Object) (granule : ℕ) (write : Bool) → InSet L o granule u write → ⊥
+  pub clean : Clean L
 
 module _ (state_law : StateStands) (cell_laws : CellsAreThere) (pointers : PointersAreThere) (rights : AccessesAreAllowed) (laws : RunLaws) (begins_law : CodeBegins) (keeps : Keeps) (x : Targets) (code : Code) (s : Shape) (ls : Labels) (wt : IsWellTyped x code ls) (fits : Fits code s) (few : IsSmall code s) where
   clean_pushed : (ev : Option SourceEvent) (L : Newest) → Clean L → ((d : SourceEvent) → ev ≡ Some d → NoConflict (d ∷ L)) → Clean (pushed ev L)
   clean_pushed None L old new = old
   clean_pushed (Some d) L old new = (new d refl, old)
 
-  pub shares : (run : List Turn) → IsRun bounds (one_thread code s) (opening_of bounds (one_thread code s) (opening_words code s)) run → Shares x code s ls run
-  shares run is =
-      let k = over_runs cell_laws pointers laws begins_law keeps x code s ls wt fits few
-      (λ run h L. record {
-        stands : (o : Object) (granule u : ℕ) (write : Bool) → InSet L o granule u write → Stands h.world (number_of o) (index_of code o granule) u write;
-        returned : (u : ℕ) → has_returned ((place_after code s run).threads u) ≡ true → (o : Object) (granule : ℕ) (write : Bool) → InSet L o granule u write → ⊥;
-        clean : Clean L;
-      })
+  pub shares : (run : List Turn) → RunOf code s run → (h : Consists x code s ls run) × Shares x code s ls run h (newest code s run)
+  shares = over_runs cell_laws pointers laws begins_law keeps x code s ls wt fits few (Shares x code s ls)
       (record { stands = λ o granule u write is. absurd is; returned = λ u is o granule write member. member; clean = tt })
       (λ one earlier h may _ old.
       let ev = said_now code (table_of code s earlier) ((place_after code s earlier).threads one.thread) (result_of one.event) in
@@ -449,5 +442,4 @@ module _ (state_law : StateStands) (cell_laws : CellsAreThere) (pointers : Point
         returned = returned_then state_law cell_laws pointers rights laws keeps x code s ls wt fits few one earlier h may L old.stands old.returned ev refl;
         clean = clean_pushed ev L old.clean
             (λ d e. clean_then state_law cell_laws pointers rights laws keeps x code s ls wt fits few one earlier h may L old.stands old.returned (Rattle.sharc_history_laws.proofs.Sets.clean_now L old.clean) d e);
-      }) run is in
-      record { consists = k.0; stands = k.1.stands; returned = k.1.returned; clean = k.1.clean }
+      })

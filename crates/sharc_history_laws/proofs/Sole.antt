@@ -1,5 +1,5 @@
 -- A thread that stopped at a test of a sole reference found the number of references to its object, of which there is another one.
-use Rattle.sharc_history_laws.proofs.{Imports.{◌≡◌, ℕ, zero, suc, ◌+◌, ◌*◌, ◌<◌, ◌≤◌, ◌⊎◌, inl, inr, true, false, List, [], ◌∷◌, Option, Some, None, is_some, if◌then◌else◌, refl, sym, ap, ◌∙◌, subst, ⊎_elim, arith, eqb-true, cases_eq, nat_eq, slice_index, THREADS, test_of, FRAMES, Code, Shape, Stop, NotSole, Fits, granules, words_of, count_word, Machine, instr_at, act, ref, opening_words, TurnsComeOut, MayStop, turn, after, may_go, most_refs, asked_by, Turn, Global, IsRun, MayTurn, after_turn, put, state_now, result_of, opening_of, one_thread, bounds, place_after, Instr, one, sum_to, Targets, Labels, IsWellTyped, Fine, ObjectState, argument_of, IsSmall, StageStands, first_world, first_place, objects_after, register_refers, log_refers, hand_refers, cell_refers, references_to, RunsTest, TestStands, OtherReference, InRegister, InArgument, InLog, InHand, InCell, FindsOthers, yes}, TurnAt.{turn_at, RunOf}, Consists.{Consists, found_is}, Outcomes.reports, Single.rests_hold, Stands.known_ref, Carried.{put_same, put_other}}
+use Rattle.sharc_history_laws.proofs.{Imports.{◌≡◌, ℕ, zero, suc, ◌+◌, ◌*◌, ◌<◌, ◌≤◌, ◌⊎◌, inl, inr, true, false, List, [], ◌∷◌, Option, Some, None, is_some, if◌then◌else◌, refl, sym, ap, ◌∙◌, subst, ⊎_elim, arith, eqb-true, cases_eq, nat_eq, slice_index, THREADS, test_of, FRAMES, Code, Shape, Stop, NotSole, Fits, granules, words_of, count_word, Machine, instr_at, act, ref, opening_words, TurnsComeOut, MayStop, turn, after, may_go, most_refs, asked_by, Turn, Global, IsRun, MayTurn, after_turn, put, state_now, result_of, opening_of, one_thread, bounds, place_after, Instr, one, sum_to, Targets, Labels, IsWellTyped, Fine, ObjectState, argument_of, IsSmall, StageStands, first_world, first_place, objects_after, register_refers, log_refers, hand_refers, cell_refers, references_to, RunsTest, TestStands, OtherReference, InRegister, InArgument, InLog, InHand, InCell, FindsOthers, yes, put_same, put_other, one_low}, TurnAt.{turn_at, RunOf}, Consists.{Consists, found_is}, Outcomes.reports, Single.rests_hold, Stands.known_ref}
 
 above : (k : ℕ) → (k ≡ 0 → ⊥) → 1 ≤ k
 above zero nz = absurd (nz refl)
@@ -49,9 +49,6 @@ one_is a o le = elim (nat_eq a o) as (λ b. nat_eq a o ≡ b → 1 ≤ (if b the
   | true ↦ λ e z. eqb-true a o e
   | false ↦ λ e z. absurd (omega arith)
 ] refl le
-
-one_low : (a o : ℕ) → one a o ≤ 1
-one_low a o = elim (nat_eq a o) as (λ b. (if b then 1 else 0) ≤ 1) [ true ↦ omega arith | false ↦ omega arith ]
 
 module _ (x : Targets) (code : Code) (s : Shape) (g : Global Machine) (obj : ℕ → ObjectState) (t k o : ℕ) where
   abbrev Other : Type 0

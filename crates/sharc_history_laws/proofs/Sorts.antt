@@ -1,5 +1,5 @@
 -- What each turn is to the state words and to the number of the next thread, and what it makes of the number that a Spawn has drawn.
-use Rattle.sharc_history_laws.proofs.{Imports.{◌≡◌, ℕ, ◌+◌, ◌<◌, Bool, true, false, ◌==◌, nat_lt, length, is_some, Option, Some, None, if◌then◌else◌, refl, sym, ap, ◌∙◌, arith, Decides-ltb, Trap, THREADS, WordOp, WordStep, word_after, Kind, note_of, site_at, noted, Code, Register, Instr, Shape, Stage, Makes, Names, Hands, Begins, Withdraws, WithdrawsFrom, Leaves, TurnOutcome, Stays, Rested, Begun, Refused, Gone, own_after, MayComeOut, ComesOut, has_stage, is_exit, is_ended, state_word, next_thread_word, Machine, Own, StepTurn as Turn, act, with_note, spawn, withdraws, exit, at_stage, numbered, trapped, Local, Asks, step_of, instr_at, after, turn, asked_by, counted, IsStageOf, drawn_of, yes, inl, inr, Aim, BuildsIn, TurnAim, ThreadLaws}, Outcomes.unended}
+use Rattle.sharc_history_laws.proofs.{Imports.{◌≡◌, ℕ, ◌+◌, ◌<◌, Bool, true, false, ◌==◌, nat_lt, length, Option, Some, None, if◌then◌else◌, refl, sym, ap, ◌∙◌, arith, Decides-ltb, Trap, THREADS, WordOp, WordStep, word_after, Code, Register, Instr, Shape, Stage, Makes, Names, Hands, Begins, Withdraws, WithdrawsFrom, Leaves, TurnOutcome, Stays, Rested, Begun, Refused, Gone, own_after, MayComeOut, ComesOut, has_stage, is_exit, is_ended, state_word, next_thread_word, Machine, Own, StepTurn as Turn, act, spawn, withdraws, exit, at_stage, numbered, trapped, Local, Asks, step_of, instr_at, after, turn, asked_by, counted, IsStageOf, drawn_of, yes, inl, inr, Aim, BuildsIn, TurnAim, ThreadLaws}, Outcomes.unended}
 use Rattle.sharc_code.specs.Aims.{is_spawn}
 
 -- ---- words that say something of a thread
@@ -62,10 +62,6 @@ pub data Sort (m : Machine) (t : Turn) : Type 0 where
   Starts : (n : ℕ) → drawn_of m.own.stage ≡ Some n → asked_by t ≡ Some (step_of (state_word n) (WordOp.Swap 1)) → ((found : ℕ) → Spawned (after t found)) → Sort m t
   Returns : asked_by t ≡ Some (step_of (state_word m.own.number) (WordOp.Swap 2)) → ((found : ℕ) → Plain m (after t found)) → Sort m t
   Ends : asked_by t ≡ Some (step_of (state_word m.own.number) (WordOp.Swap 3)) → ((found : ℕ) → is_ended (after t found).at.state ≡ true) → ((found : ℕ) → drawn_of (after t found).own.stage ≡ None) → Sort m t
-
-pub note_stage : (own : Own) (granule : ℕ) (kind : Kind) (epoch site : ℕ) → (with_note own granule kind epoch site).stage ≡ own.stage
-note_stage own granule kind epoch site =
-    elim (is_some (site_at (note_of own.table granule kind) epoch)) as (λ b. (if b then own else record own { table = noted own.table granule kind record { epoch = epoch; site = site } }).stage ≡ own.stage) [ true ↦ refl | false ↦ refl ]
 
 -- ---- other turns than those of a Spawn and an Exit
 no_number : (i : Instr) (stage : Stage) → is_spawn i ≡ false → has_stage i stage ≡ true → drawn_of stage ≡ None

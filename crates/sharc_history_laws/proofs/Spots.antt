@@ -1,5 +1,5 @@
 -- Where the cell of a check lies: two checked cells of the same granule of memory are of the same object and granule to the source.
-use Rattle.sharc_history_laws.proofs.{Imports.{◌≡◌, ℕ, suc, ◌+◌, ◌-◌, ◌*◌, ◌/◌, ◌<◌, ◌≤◌, ◌≢◌, true, refl, sym, ap, ◌∙◌, subst, ⊎_elim, arith, cases_eq, cases_lt, slice_index_or, CellAt, Object, Code, Cell, Shape, word_of, Fits, granule_at, granule_of, Machine, int, ref, place, Global, cell_at, global_cell, made_cell, no_global, granule_in, Labels, OfGlobal, CellsAreThere, IsOn, State, OnHold, NumberStands, object_of_cell, number_in, view_of, refs_at, types_at, IsWellTyped, AreGlobals, HasCell, Targets, Field, World, lt_of_le-ne}, TurnAt.thread_at, Shadows.at_low, Stands.{rn, top, known_ref, there}, Staying.IsObject}
+use Rattle.sharc_history_laws.proofs.{Imports.{◌≡◌, ℕ, suc, ◌+◌, ◌-◌, ◌*◌, ◌/◌, ◌<◌, ◌≤◌, ◌≢◌, true, refl, sym, ap, ◌∙◌, subst, ⊎_elim, arith, cases_eq, cases_lt, slice_index_or, CellAt, Object, Code, Cell, Shape, word_of, Fits, granule_at, granule_of, Machine, int, ref, place, Global, cell_at, global_cell, made_cell, no_global, granule_in, Labels, OfGlobal, CellsAreThere, IsOn, State, OnHold, NumberStands, object_of_cell, number_in, view_of, refs_at, types_at, IsWellTyped, AreGlobals, HasCell, Targets, Field, World, lt_of_le-ne, at_low}, TurnAt.thread_at, Stands.{rn, top, known_ref, there}, Staying.IsObject}
 use Rattle.sharc_invariant.specs.Typed.{IsInGlobal}
 
 -- the cell is of granule k of object o, which is granule p of memory

@@ -1,5 +1,5 @@
 -- What the state words say wherever a run is.
-use Rattle.sharc_history_laws.proofs.{Imports.{◌≡◌, ℕ, ◌+◌, ◌%◌, ◌^◌, ◌<◌, ◌≤◌, ◌⊎◌, Bool, true, false, ◌||◌, ◌&&◌, List, [], ◌∷◌, Option, Some, None, refl, sym, ap, ◌∙◌, subst, ⊎_elim, inl, inr, arith, cases_eq, or_right, or_left, nat_tests, get_or-set_other, get_or-map-range_with_len, nat_eq, nat_lt, nat_le, ◌==◌, slice_index, THREADS, WordStep, WordEvent, word_after, words_after_step, WordOp, Code, Shape, TurnState, Tries, Stopped, Ended, state_word, next_thread_word, words_of, Machine, StepTurn as Act, step_of as step_at, opening_words, opens_with, opening_cell, first_global, turn, after, asked_by, may_go, counted, Turn, Global, IsRun, put, words_now, result_of, is_started, opening_of, Answered, RunLaws, StandingLaws, is_ended, drawn_of, one_thread, bounds, place_after, state_of, or_split, not_ended, set_here, set_same, not_true}, Places.{sum_to, sum_few, sum_grows, sum_more}, Sorts.{LeavesThem, Elsewhere, Plain, Drew, Spawned, Sort, Ordinary, Draws, Starts, Returns, Ends, sorted}, Tells.{Tells, StateChange, Same, Begins, Own, Changes, tells_still}, Carried.{put_same, put_other}}
+use Rattle.sharc_history_laws.proofs.{Imports.{◌≡◌, ℕ, ◌+◌, ◌%◌, ◌^◌, ◌<◌, ◌≤◌, ◌⊎◌, Bool, true, false, ◌||◌, ◌&&◌, List, [], ◌∷◌, Option, Some, None, refl, sym, ap, ◌∙◌, subst, ⊎_elim, inl, inr, arith, cases_eq, or_right, or_left, nat_tests, get_or-set_other, get_or-map-range_with_len, nat_eq, nat_lt, nat_le, ◌==◌, slice_index, THREADS, WordStep, WordEvent, word_after, words_after_step, WordOp, Code, Shape, TurnState, Tries, Stopped, Ended, state_word, next_thread_word, words_of, Machine, StepTurn as Act, step_of as step_at, opening_words, opens_with, opening_cell, first_global, turn, after, asked_by, may_go, counted, Turn, Global, IsRun, put, words_now, result_of, is_started, opening_of, Answered, RunLaws, StandingLaws, is_ended, drawn_of, one_thread, bounds, place_after, state_of, or_split, not_ended, set_here, set_same, not_true, put_same, put_other, sum_to, sum_grows, sum_bound}, Places.sum_more, Sorts.{LeavesThem, Elsewhere, Plain, Drew, Spawned, Sort, Ordinary, Draws, Starts, Returns, Ends, sorted}, Tells.{Tells, StateChange, Same, Begins, Own, Changes, tells_still}}
 use Rattle.sharc_code.specs.{declared.state.TurnState.TheVariants.Runs, Runs.step_of}
 
 -- ---- words
@@ -170,7 +170,7 @@ module _ (g : Global Machine) (k : ℕ) (event : Option WordEvent) (h : Holds g)
       let found : result_of event ≡ next_of g = found_is g.words event step q answered in
       let new : next ≡ (next_of g + 1) % 2 ^ 64 = after_set g.words event step q answered in
       let old = h.few in
-      let most = sum_few THREADS 100000000 g.made room in
+      let most = sum_bound THREADS 100000000 g.made room in
       let more : next ≡ next_of g + 1 = omega arith in
       let other : (u : ℕ) → state u ≡ state_of g u = λ u. after_other g.words event step (state_word u) q (λ e. no u (sym e)) in
       let states : States = λ u low. Same (other u) in

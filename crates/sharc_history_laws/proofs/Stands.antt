@@ -1,16 +1,5 @@
 -- What the invariant says of a thread that goes on: its registers, the gate of its place, and the cells that its instruction names.
-use Rattle.sharc_history_laws.proofs.{Imports.{◌≡◌, ℕ, suc, ◌+◌, ◌^◌, ◌<◌, ◌≢◌, Bool, true, false, cond, refl, sym, ap, ◌∙◌, subst, arith, nat_tests, slice_index, ◌==◌, Code, Cell, Instr, Shape, Stage, Links, Fits, granules, Machine, instr_at, ref, is_of_null, Global, Targets, ObjectType, StaticType, Field, Sole, Refers, Label, Labels, IsWellTyped, HasCell, HasBase, RegisterOf, In, Slot, IsSole, World, in_ref, lang_of, is_freed, CellIsThere as IsThere, State, Runs, TopStands, EntryStands, GateStands, OnHold, label_now, refs_at, types_at, IsOn, CellsAreThere}, TurnAt.thread_at}
-
--- ---- stages at which no block is to be linked
-label_held : (l : Label) (i : Instr) (stage : Stage) → OnHold stage → label_now l i stage ≡ l
-label_held l (Instr.Free r layout site) (Links all) h = absurd h
-label_held l (Instr.Free r layout site) _ h = refl
-label_held l _ stage h = refl
-
-freed_held : (i : Instr) (stage : Stage) (base j : ℕ) → OnHold stage → is_freed i stage base j ≡ false
-freed_held (Instr.Free r layout site) (Links all) base j h = absurd h
-freed_held (Instr.Free r layout site) _ base j h = refl
-freed_held _ stage base j h = refl
+use Rattle.sharc_history_laws.proofs.{Imports.{◌≡◌, ℕ, suc, ◌+◌, ◌^◌, ◌<◌, ◌≢◌, Bool, true, false, cond, refl, sym, ap, ◌∙◌, subst, arith, nat_tests, slice_index, ◌==◌, Code, Cell, Shape, Fits, granules, Machine, instr_at, ref, is_of_null, Global, Targets, ObjectType, StaticType, Field, Sole, Refers, Label, Labels, IsWellTyped, HasCell, HasBase, RegisterOf, In, Slot, IsSole, World, in_ref, lang_of, CellIsThere as IsThere, State, Runs, TopStands, EntryStands, GateStands, OnHold, label_now, refs_at, types_at, IsOn, CellsAreThere, label_held, freed_held}, TurnAt.thread_at}
 
 module _ (x : Targets) (code : Code) (s : Shape) (ls : Labels) (wt : IsWellTyped x code ls) (fits : Fits code s) (g : Global Machine) (world : World) (st : State x code s ls g world) where
   -- a register is what the world says

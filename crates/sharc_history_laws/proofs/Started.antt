@@ -1,5 +1,5 @@
 -- The first event of a thread is the Started of the function and the argument with which an earlier Spawn started it, or of main.
-use Rattle.sharc_history_laws.proofs.{Imports.{◌≡◌, ℕ, ℤ, pos, suc, ◌<◌, ◌≢◌, ◌⊎◌, inl, inr, Bool, true, false, ◌&&◌, length, List, [], ◌∷◌, ◌++◌, reverse, Option, Some, None, if◌then◌else◌, refl, sym, ap, ◌∙◌, subst, ⊎_elim, arith, eqb-true, cases_eq, nat_tests, get_or_append_left, get_or_push, length_push, get_or-map-range_with_len, slice_index, nat_lt, nat_eq, nat_le, ◌==◌, Any, THREADS, WordOp, Act, SourceEvent, Code, Parameter, Instr, Register, Shape, Stage, Rests, Begins, Enters, word_of, RunLaws, Fits, words_of, state_word, function_word, argument_word, Machine, instr_at, act, start, spawn, int, ref, argument, function_of, opening_words, opens_with, opening_cell, first_global, turn, after, asked_by, Turn, Global, IsRun, MayTurn, put, state_now, result_of, is_started, opening_of, said, speaks_of, reference, started_with, in_start, of_argument, SpawnsStart, begins_of, one_thread, bounds, place_after, Elements, said_now, table_of, is_of, events_of, History, Targets, Labels, IsWellTyped, Fine, ArgumentOf, In, in_ref, is_unread, if_reference, IsSmall, StageStands, OnSpawn, OnHold, view_of, refs_at, types_at, Keeps, CodeBegins, CellsAreThere, PointersAreThere, AccessesAreAllowed, history_of, IsSpawnedByCode, IsStartedBy, yes, and_right as second}, TurnAt.{turn_at, told_at, turn_stands}, Consists.{Consists, found_is, same_table}, Contents.{back_again, fits_in}, Given.{spares_given, given_stays}, Holding.own_push, Lists.{Newest, Each, no_event, reverse_push}, Locking.is_own, Rules.{over_runs, each_pushed, pushed, newest}, Stands.{live_slot, top, rn}, Tables.header_of, Valued.{same_elements, reference_as}, Standing.{is_one as started_word}, Threaded.{and_parts as parts}, Carried.{put_same, put_other}}
+use Rattle.sharc_history_laws.proofs.{Imports.{◌≡◌, ℕ, ℤ, pos, suc, ◌<◌, ◌≢◌, ◌⊎◌, inl, inr, Bool, true, false, ◌&&◌, length, List, [], ◌∷◌, ◌++◌, reverse, Option, Some, None, if◌then◌else◌, refl, sym, ap, ◌∙◌, subst, ⊎_elim, arith, eqb-true, cases_eq, nat_tests, get_or_append_left, get_or_push, length_push, get_or-map-range_with_len, slice_index, nat_lt, nat_eq, nat_le, ◌==◌, Any, THREADS, WordOp, Act, SourceEvent, Code, Parameter, Instr, Register, Shape, Stage, Rests, Begins, Enters, word_of, RunLaws, Fits, words_of, state_word, function_word, argument_word, Machine, instr_at, act, start, spawn, int, ref, argument, function_of, opening_words, opens_with, opening_cell, first_global, turn, after, asked_by, Turn, Global, IsRun, MayTurn, put, state_now, result_of, is_started, opening_of, said, speaks_of, reference, started_with, in_start, of_argument, SpawnsStart, begins_of, one_thread, bounds, place_after, Elements, said_now, table_of, is_of, events_of, History, Targets, Labels, IsWellTyped, Fine, ArgumentOf, In, in_ref, is_unread, if_reference, IsSmall, StageStands, OnSpawn, OnHold, view_of, refs_at, types_at, Keeps, CodeBegins, CellsAreThere, PointersAreThere, AccessesAreAllowed, history_of, IsSpawnedByCode, IsStartedBy, yes, and_right as second, put_same, put_other, back_again}, TurnAt.{turn_at, told_at, turn_stands}, Consists.{Consists, found_is, same_table}, Contents.fits_in, Given.{spares_given, given_stays}, Holding.own_push, Lists.{Newest, Each, no_event, reverse_push}, Locking.is_own, Rules.{over_runs, each_pushed, pushed, newest}, Stands.{live_slot, top, rn}, Tables.header_of, Valued.{same_elements, reference_as}, Standing.is_one as started_word, Threaded.and_parts as parts}
 use Rattle.sharc_code.specs.Says.{argument_of}
 use Rattle.sharc_invariant.specs.Words as Words
 
@@ -201,7 +201,7 @@ module _ (cell_laws : CellsAreThere) (pointers : PointersAreThere) (rights : Acc
           let number = (top x code s ls wt fits g h.world h.state u on hold 0 (suc n)).numbers n (omega arith) in
           let view = view_of h.state.elements h.world u m in
           let fit = fits_in x h.state.elements (refs_at view m.at.refs) (types_at view m.at.refs) (rn x code s ls wt fits g h.world h.state u on hold).names (int m n) ((ls.at m.at.pc).ints n) hands.5.2.0 hands.5.2.1 number in
-          sym (back_again hands.5.2.0 (int m n) fit) ∙ sym (ap (λ p. started_with p (word_of (int m n)) (T' (word_of (int m n)))) hands.5.0)
+          sym ((back_again hands.5.2.0 (int m n) fit).0) ∙ sym (ap (λ p. started_with p (word_of (int m n)) (T' (word_of (int m n)))) hands.5.0)
       value_is (Register.Reference n) e =
           let hands = subst (λ from. Fine x code ls m.at.pc (ls.at m.at.pc) (Instr.Spawn r f from site)) e (fine (Instr.Spawn r f from site) is) in
           let speaks : elements ≡ T (ref m n) = ap (λ j. T (speaks_of j m found)) is ∙ ap (λ q. T (of_argument m q)) e in

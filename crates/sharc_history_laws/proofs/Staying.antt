@@ -1,5 +1,5 @@
 -- An object in whose granules bits stand stays, and no event of a turn is about its beginning or its end.
-use Rattle.sharc_history_laws.proofs.{Imports.{◌≡◌, ℕ, ◌+◌, ◌*◌, ◌<◌, ◌≢◌, Bool, true, false, List, ◌∷◌, Option, Some, None, refl, sym, ap, ◌∙◌, subst, ⊎_elim, cases_eq, or_no, Object, SourceEvent, stands, Code, Instr, Shape, Stage, Uncounts, Leaves as Leaving, granules, ref, is_exit, turn, Turn, Global, result_of, paired, told_by, said, Erase, one_thread, place_after, begins, frees, is_number, made_by, given_by, is_gone, Built, Live, Labels, IsOn, State, Targets, cells_of, has_withdrawn, is_ended, World, ObjectState, yes, not_false}, TurnAt.{turn_at, RunOf}, Acts.{given_at, freed_in, freed_at, About, about}, Cleared.{given_cleared, freed_cleared}, Consists.{Consists, objects_then, header_built}, Leaving.{gone_said, not_gone, leaves_at}, Remaining.word_at, Rules.{same_behind, low_numbers, number_not as number_no}, Tables.{header_of, length_kept}, Wholes.{TheLaws, Typed, Whole, fresh_of, next_consists}, Withdrawing.has_left, Writes.writes}
+use Rattle.sharc_history_laws.proofs.{Imports.{◌≡◌, ℕ, ◌+◌, ◌*◌, ◌<◌, ◌≢◌, true, false, List, ◌∷◌, Option, Some, None, refl, sym, ap, ◌∙◌, subst, ⊎_elim, cases_eq, or_no, Object, SourceEvent, stands, Code, Instr, Shape, Stage, Uncounts, Leaves as Leaving, granules, ref, is_exit, turn, Turn, result_of, paired, told_by, said, Erase, one_thread, place_after, begins, frees, is_number, made_by, given_by, is_gone, Built, Live, Labels, IsOn, Targets, cells_of, has_withdrawn, is_ended, ObjectState, yes, not_false}, TurnAt.{turn_at, RunOf}, Acts.{given_at, freed_in, freed_at, About, about}, Cleared.{given_cleared, freed_cleared}, Consists.{Consists, objects_then, header_built}, Leaving.{gone_said, not_gone, leaves_at}, Remaining.word_at, Rules.{same_behind, low_numbers, number_not as number_no}, Tables.{header_of, length_kept}, Wholes.{TheLaws, Typed, Whole, fresh_of, next_consists}, Withdrawing.has_left, Writes.writes}
 use Rattle.sharc_meaning.specs.Events.{freed_by}
 
 -- the object of this number, where it is one that was made

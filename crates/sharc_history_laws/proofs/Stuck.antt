@@ -1,5 +1,5 @@
 -- The event for which a thread waits may not come.
-use Rattle.sharc_history_laws.proofs.{Imports.{◌≡◌, ℕ, ℤ, pos, negsuc, zero, suc, ◌≢◌, ◌⊎◌, inl, inr, Bool, true, false, not, ◌||◌, List, nat_lt, ltb-true, Some, None, if◌then◌else◌, refl, sym, ap, ◌∙◌, subst, ⊎_elim, arith, eqb-true, slice_index, ◌==◌, THREADS, Act, SourceEvent, Resolution, waits_in, Code, Cell, Instr, Shape, Fits, state_word, Machine, instr_at, int, word, Turn, Global, cell_at, asks_for, joins, held_up, CheckedRun, place_after, Waits, Wait, MayCome, is_locked, is_waiter, went, Targets, Labels, IsWellTyped, Fine, IsNotSole, IsSmall, StageStands, IsOn, CellsAreThere, StateStands, AwaitedIsHeld, AwaitedIsNotGone, history_of, act_awaited, yes, or_split}, Contents.word_of_cell, Emptying.IsEmptied, Mutual.locked_is, Queued.{waits_by, waiter_is}, Rules.newest, Shared.number_of, Single.rests_hold, Sparing.holds_waiters, Stored.Stored, Unemptied.not_emptied, Woken.Awaited}
+use Rattle.sharc_history_laws.proofs.{Imports.{◌≡◌, ℕ, ℤ, pos, negsuc, zero, suc, ◌≢◌, inl, inr, Bool, true, false, not, List, nat_lt, ltb-true, Some, None, if◌then◌else◌, refl, sym, ap, ◌∙◌, subst, ⊎_elim, arith, eqb-true, slice_index, ◌==◌, THREADS, Act, SourceEvent, Resolution, waits_in, Code, Cell, Instr, Shape, Fits, state_word, Machine, instr_at, int, word, Turn, Global, cell_at, asks_for, joins, held_up, CheckedRun, place_after, Waits, Wait, MayCome, is_locked, is_waiter, went, Targets, Labels, IsWellTyped, Fine, IsNotSole, IsSmall, StageStands, IsOn, CellsAreThere, StateStands, AwaitedIsHeld, AwaitedIsNotGone, history_of, act_awaited, yes, or_split}, Contents.word_of_cell, Emptying.IsEmptied, Mutual.locked_is, Queued.{waits_by, waiter_is}, Rules.newest, Shared.number_of, Single.rests_hold, Sparing.holds_waiters, Stored.Stored, Unemptied.not_emptied, Woken.Awaited}
 use Rattle.sharc_history_laws.proofs.Placed as Placed
 
 not_zero : (n : ℕ) → not (n == 0) ≡ true → n ≢ 0

@@ -1,5 +1,5 @@
 -- Which turns tell that a thread was spawned, or is gone, and which tell a change of a cell.
-use Rattle.sharc_history_laws.proofs.{Imports.{◌≡◌, ℕ, Bool, true, false, Option, Some, None, refl, ◌||◌, sym, ◌∙◌, Act, CellAt, SourceEvent, Taken, Code, Cell, Instr, Machine, said, is_exit, is_spawn, is_gone, cell_changed, is_threading, tells, IsSaidBy, TurnsTell}, Acts.access_said}
+use Rattle.sharc_history_laws.proofs.{Imports.{◌≡◌, ℕ, Bool, true, false, Option, Some, None, refl, ◌||◌, sym, ◌∙◌, Act, CellAt, SourceEvent, Taken, Code, Instr, Machine, said, is_exit, is_spawn, is_gone, cell_changed, is_threading, tells, IsSaidBy, TurnsTell}, Acts.access_said}
 
 -- ---- threads
 abbrev pub about_threads : Act → Bool

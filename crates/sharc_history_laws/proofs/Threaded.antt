@@ -1,5 +1,5 @@
 -- Who was started, and who has ended, by the events of a run.
-use Rattle.sharc_history_laws.proofs.{Imports.{◌≡◌, ℕ, ℤ, pos, ◌+◌, ◌<◌, Bool, true, false, ◌||◌, ◌&&◌, length, List, [], ◌∷◌, reverse, Option, Some, None, if◌then◌else◌, refl, sym, ap, ◌∙◌, subst, ⊎_elim, arith, eqb-true, cases_eq, or_right, nat_tests, slice_index, nat_lt, nat_eq, ◌==◌, list_any, THREADS, WordOp, Act, SourceEvent, Code, Instr, Register, Shape, Stage, Begins, Withdraws, WithdrawsFrom, Leaves, RunLaws, Fits, state_word, Machine, act, exit, spawn, withdraws, withdrew, at_stage, is_exit, turn, after, asked_by, Turn, Global, MayTurn, after_turn, put, state_now, words_now, is_started, said, in_exit, in_spawn, one_thread, bounds, place_after, History, spawns, is_spawn, is_natural, is_gone, was_spawned, went, Targets, Labels, IsWellTyped, is_ended, IsSmall, StageStands, Keeps, CellsAreThere, PointersAreThere, AccessesAreAllowed, same_is, or_split as or_cases, yes, is_threading}, TurnAt.{turn_at, told_at}, Consists.{Consists, after_set}, Outcomes.unended, Holding.any_push, Lists.{Newest, reverse_push}, Rules.{pushed, number_is}, Telling.{threads_said, neither, no_thread}, Carried.{put_same, put_other}}
+use Rattle.sharc_history_laws.proofs.{Imports.{◌≡◌, ℕ, ℤ, pos, ◌+◌, ◌<◌, Bool, true, false, ◌||◌, ◌&&◌, length, List, [], ◌∷◌, reverse, Option, Some, None, if◌then◌else◌, refl, sym, ap, ◌∙◌, subst, ⊎_elim, arith, eqb-true, cases_eq, or_right, nat_tests, slice_index, nat_lt, nat_eq, ◌==◌, list_any, THREADS, WordOp, Act, SourceEvent, Code, Instr, Register, Shape, Stage, Begins, Withdraws, WithdrawsFrom, Leaves, RunLaws, Fits, state_word, Machine, act, exit, spawn, withdraws, withdrew, at_stage, is_exit, turn, after, asked_by, Turn, Global, MayTurn, after_turn, put, state_now, words_now, is_started, said, in_exit, in_spawn, one_thread, bounds, place_after, History, spawns, is_spawn, is_natural, is_gone, was_spawned, went, Targets, Labels, IsWellTyped, is_ended, IsSmall, StageStands, Keeps, CellsAreThere, PointersAreThere, AccessesAreAllowed, same_is, or_split as or_cases, yes, is_threading, put_same, put_other}, TurnAt.{turn_at, told_at}, Consists.{Consists, after_set}, Outcomes.unended, Holding.any_push, Lists.{Newest, reverse_push}, Rules.{pushed, number_is}, Telling.{threads_said, neither, no_thread}}
 
 pub or_left : (a b : Bool) → a ≡ true → (a || b) ≡ true
 or_left true b e = refl

@@ -1,5 +1,5 @@
 -- Which word a turn of typed code is on: one below the blocks, a count of a live object, a cell, or a word of a block that the thread builds.
-use Rattle.sharc_history_laws.proofs.{Imports.{◌≡◌, ℕ, ℤ, pos, negsuc, zero, suc, ◌+◌, ◌*◌, ◌/◌, ◌<◌, ◌≤◌, ◌≢◌, Bool, true, false, nat_lt, List, Option, Some, None, if◌then◌else◌, refl, sym, ap, ◌∙◌, subst, arith, nat_tests, slice_index, ◌==◌, Trap, THREADS, WordOp, WordStep, word_after, NewView, told, word_number, turn_of_stage, NewArguments, NewStage, Code, Cell, Register, Instr, Shape, Stage, Looks, Clears, Makes, Empties, Lowers, FreeLooks, FreeClears, Uncounts, Links, Names, Hands, Begins, Enters, Withdraws, WithdrawsFrom, Leaves as Leaving, Wakes, Fits, granules, words_of, cell_word, cell_of, shadow_word, count_word, length_word, first_cell, first_shadow, state_word, Machine, StepTurn as Turn, Local, Asks, step_of, act, int, ref, word, raise, lower, test, new, asks_new, new_state, elements_of, clear, free, layout_at, spawn, join, start, exit, signal, goes, set_ref, accessed, move_ref, joined, trapped, instr_at, pointer_cell, turn, Global, Targets, Field, Content, MutexWord, Waiters, Labels, IsWellTyped, Fine, HasCell, Accesses, World, In, RegisterOf, in_ref, Staged, CellOf, IsLoaded, WinOk, base_of, staged_of, lang_of, Heap, Built, State, Runs, StageStands, BuildsAt, all_pointers, OnHold, number_in, GateStands, base_of_cell, IsOn, PointersAreThere}, TurnAt.thread_at, Single.{single, rests_hold}, Stands.{sole_ref, live_ref, target_ref, register_is, live_slot, known_ref, gate}}
+use Rattle.sharc_history_laws.proofs.{Imports.{◌≡◌, ℕ, ℤ, pos, negsuc, zero, suc, ◌+◌, ◌*◌, ◌/◌, ◌<◌, ◌≤◌, ◌≢◌, Bool, true, false, nat_lt, List, Option, Some, None, if◌then◌else◌, refl, sym, ap, ◌∙◌, subst, arith, nat_tests, slice_index, ◌==◌, Trap, THREADS, WordOp, WordStep, word_after, NewView, told, word_number, turn_of_stage, NewArguments, NewStage, Code, Cell, Register, Instr, Shape, Stage, Looks, Clears, Makes, Empties, Lowers, FreeLooks, FreeClears, Uncounts, Links, Names, Hands, Begins, Enters, Withdraws, WithdrawsFrom, Leaves as Leaving, Wakes, Fits, granules, words_of, cell_word, cell_of, shadow_word, count_word, length_word, first_cell, first_shadow, state_word, Machine, StepTurn as Turn, Local, Asks, step_of, act, int, ref, word, raise, lower, test, new, asks_new, new_state, elements_of, clear, free, layout_at, spawn, join, start, exit, signal, goes, set_ref, accessed, move_ref, joined, trapped, instr_at, pointer_cell, turn, Global, Targets, Field, Content, MutexWord, Waiters, Labels, IsWellTyped, Fine, HasCell, Accesses, World, In, RegisterOf, in_ref, Staged, CellOf, IsLoaded, WinOk, base_of, staged_of, lang_of, Heap, Built, State, Runs, StageStands, BuildsAt, all_pointers, OnHold, number_in, GateStands, base_of_cell, IsOn, PointersAreThere, single}, TurnAt.thread_at, Single.rests_hold, Stands.{sole_ref, live_ref, target_ref, register_is, live_slot, known_ref, gate}}
 use Rattle.sharc_invariant.specs.Words.{cell_at}
 
 abbrev pub is_mutex : Content → Bool

@@ -1,5 +1,5 @@
 -- A thread that has its argument to read has had no event, and a Spawn has answered its number that gave it what it is to read.
-use Rattle.sharc_history_laws.proofs.{Imports.{◌≡◌, ◌≢◌, ℕ, ◌+◌, ◌<◌, inl, inr, Bool, true, false, ◌&&◌, length, List, [], ◌∷◌, ◌++◌, reverse, Option, Some, None, if◌then◌else◌, refl, sym, ap, ◌∙◌, subst, ⊎_elim, arith, eqb-true, cases_eq, nat_tests, slice_index, nat_lt, ◌==◌, ◌^◌, THREADS, SourceEvent, Code, Parameter, Instr, Shape, Stage, Rests, Enters, Withdraws, WithdrawsFrom, Leaves, FRAMES, RunLaws, Fits, state_word, function_word, Machine, instr_at, act, start, exit, withdraws, has_room, called, entered, with_parameter, function_of, opening_words, turn, after, Turn, Global, IsRun, MayTurn, put, state_now, result_of, opening_of, said, reference, started_with, in_start, SpawnsStart, one_thread, bounds, place_after, table_of, events_of, Targets, Labels, IsWellTyped, ArgumentOf, In, is_unread, is_first, if_reference, argument_of, IsSmall, StageStands, FramesStand, view_of, IsOn, Keeps, CodeBegins, CellsAreThere, PointersAreThere, AccessesAreAllowed, history_of, IsGivenTo, is_below as less, yes}, TurnAt.{turn_at, told_at}, Consists.Consists, Finds.low_slot, Holding.own_push, Lists.Newest, Locking.is_others, Past.arriving, Rules.{pushed, newest, newest_now}, Started.{Unheard, SpawnedIn, WasGiven, function_given, argument_given, spawned_any, begun_runs}, Threaded.{and_parts as parts}, Carried.{put_same, put_other}}
+use Rattle.sharc_history_laws.proofs.{Imports.{◌≡◌, ◌≢◌, ℕ, ◌+◌, ◌<◌, inl, inr, Bool, true, false, ◌&&◌, length, List, [], ◌∷◌, ◌++◌, reverse, Option, Some, None, if◌then◌else◌, refl, sym, ap, ◌∙◌, subst, ⊎_elim, arith, eqb-true, cases_eq, nat_tests, slice_index, nat_lt, ◌==◌, ◌^◌, THREADS, SourceEvent, Code, Parameter, Instr, Shape, Stage, Rests, Enters, Withdraws, WithdrawsFrom, Leaves, FRAMES, RunLaws, Fits, state_word, function_word, Machine, instr_at, act, start, exit, withdraws, has_room, called, entered, with_parameter, function_of, opening_words, turn, after, Turn, Global, IsRun, MayTurn, put, state_now, result_of, opening_of, said, reference, started_with, in_start, SpawnsStart, one_thread, bounds, place_after, table_of, events_of, Targets, Labels, IsWellTyped, ArgumentOf, In, is_unread, is_first, if_reference, argument_of, IsSmall, StageStands, FramesStand, view_of, IsOn, Keeps, CodeBegins, CellsAreThere, PointersAreThere, AccessesAreAllowed, history_of, IsGivenTo, is_below as less, yes, put_same, put_other}, TurnAt.{turn_at, told_at}, Consists.Consists, Finds.low_slot, Holding.own_push, Lists.Newest, Locking.is_others, Past.arriving, Rules.{pushed, newest, newest_now}, Started.{Unheard, SpawnedIn, WasGiven, function_given, argument_given, spawned_any, begun_runs}, Threaded.and_parts as parts}
 
 some_none : (f : ℕ) → Some f ≡ None → ⊥
 some_none f e = cc

@@ -1,5 +1,5 @@
 -- A readonly pointer cell of an object that no thread has alone is written by no turn of typed code.
-use Rattle.sharc_history_laws.proofs.{Imports.{◌≡◌, ℕ, ◌+◌, ◌<◌, true, false, Some, refl, sym, ◌∙◌, subst, Code, Cell, Instr, Shape, Empties, Fits, Machine, instr_at, ref, turn, Global, Targets, Field, Content, Integer, MutexWord, Waiters, Pointer, field_in, mode_at, is_pointer, Labels, IsWellTyped, Fine, Accesses, IsSole, World, CanBy, lang_of, Closing, State, GateStands, OnHold, object_of_cell, number_in, IsOn, CellsAreThere, PointersAreThere, AccessesAreAllowed}, Single.{single, rests_hold}, Sparing.{SparesTurn, is_value}, Touches.written_cell, Stands.{there, gate, reads_ref}}
+use Rattle.sharc_history_laws.proofs.{Imports.{◌≡◌, ℕ, ◌+◌, ◌<◌, true, false, Some, refl, sym, ◌∙◌, subst, Code, Cell, Instr, Shape, Empties, Fits, Machine, instr_at, ref, turn, Global, Targets, Field, Content, Integer, MutexWord, Waiters, Pointer, field_in, mode_at, is_pointer, Labels, IsWellTyped, Fine, Accesses, IsSole, World, CanBy, lang_of, Closing, State, GateStands, OnHold, object_of_cell, number_in, IsOn, CellsAreThere, PointersAreThere, AccessesAreAllowed, single}, Single.rests_hold, Sparing.{SparesTurn, is_value}, Touches.written_cell, Stands.{there, gate, reads_ref}}
 use Rattle.sharc_invariant.specs.{Types.CellMode, Words.cell_at}
 use Rattle.sharc_history_laws.proofs.Sparing as Sparing
 

@@ -1,5 +1,5 @@
 -- Each turn of typed code leaves the cells with what the events say that they hold.
-use Rattle.sharc_history_laws.proofs.{Imports.{◌≡◌, ℕ, pos, zero, suc, ◌+◌, ◌*◌, ◌≢◌, ◌⊎◌, inl, inr, Bool, true, false, ◌||◌, List, ◌∷◌, Option, Some, None, refl, sym, ap, ◌∙◌, subst, ⊎_elim, arith, slice_index, WordOp, Act, CellAt, Object, SourceEvent, Resolution, Code, Cell, Instr, Shape, word_of, RunLaws, Fits, Machine, instr_at, int, ref, word, act, object, turn, asked_by, Turn, Global, MayTurn, after_turn, words_now, said, cell_at, speaks_of, reference, one_thread, bounds, place_after, Elements, table_of, makes, is_cell, is_number, made_by, same_cell, changes, cell_changed, value_left, Targets, Field, Content, Integer, Pointer, field_in, is_pointer, Labels, IsWellTyped, Accesses, HasCell, CellOf, ObjectState, IsSmall, StageStands, OnHold, object_of_cell, number_in, view_of, refs_at, types_at, Keeps, CellsAreThere, PointersAreThere, AccessesAreAllowed, yes, or_right, is_access}, TurnAt.{turn_at, told_at, turn_stands}, Acts.{given_at, freed_at, About, no_access}, Born.born, Consists.{Consists, consists_then, objects_then, after_set, same_table, headed, live_not_built, header_built}, Contents.{newest_value, value_changed, value_kept, value_held, IsCellOf, content_of, word_of_cell, Contents, one_cell, back_again, fits_in}, Emptying.{IsFreeing, IsEmptied, emptied_then, begins_freeing}, Holding.cell_eq, Lists.Newest, Locked.Names, Locking.cell_refl, ModesKept.word_spared, OneMode.{place_of, numbers_now}, Rules.{pushed, about_now, decide, number_yes, freed_gone, makes_none}, Shared.number_of, Single.{single, rests_hold}, Sparing.{is_value, spares}, Touches.written_cell, Stands.{live_slot, there, top, rn}, Tables.header_of, Telling.{changed_said, unchanged_said}, Unwritten.writes_single, Values.{Kept, kept}}
+use Rattle.sharc_history_laws.proofs.{Imports.{◌≡◌, ℕ, pos, zero, suc, ◌+◌, ◌*◌, ◌≢◌, ◌⊎◌, inl, inr, Bool, true, false, ◌||◌, List, ◌∷◌, Option, Some, None, refl, sym, ap, ◌∙◌, subst, ⊎_elim, arith, slice_index, WordOp, Act, CellAt, Object, SourceEvent, Resolution, Code, Cell, Instr, Shape, word_of, RunLaws, Fits, instr_at, int, ref, word, act, turn, asked_by, Turn, MayTurn, after_turn, words_now, said, cell_at, speaks_of, reference, one_thread, bounds, place_after, Elements, table_of, makes, is_cell, is_number, made_by, same_cell, changes, cell_changed, value_left, Targets, Field, Content, Integer, Pointer, field_in, is_pointer, Labels, IsWellTyped, Accesses, HasCell, CellOf, ObjectState, IsSmall, StageStands, OnHold, object_of_cell, number_in, view_of, refs_at, types_at, Keeps, CellsAreThere, PointersAreThere, AccessesAreAllowed, yes, or_right, is_access, back_again, single}, TurnAt.{turn_at, told_at, turn_stands}, Acts.{given_at, freed_at, About, no_access}, Born.born, Consists.{Consists, consists_then, objects_then, after_set, same_table, headed, live_not_built, header_built}, Contents.{newest_value, value_changed, value_kept, value_held, IsCellOf, content_of, word_of_cell, Contents, one_cell, fits_in}, Emptying.{IsFreeing, IsEmptied, emptied_then, begins_freeing}, Holding.cell_eq, Lists.Newest, Locked.Names, Locking.cell_refl, ModesKept.word_spared, OneMode.{place_of, numbers_now}, Rules.{pushed, about_now, decide, number_yes, freed_gone, makes_none}, Shared.number_of, Single.rests_hold, Sparing.{is_value, spares}, Touches.written_cell, Stands.{live_slot, there, top, rn}, Tables.header_of, Telling.{changed_said, unchanged_said}, Unwritten.writes_single, Values.{Kept, kept}}
 use Rattle.sharc_invariant.specs.Words as Words
 use Rattle.sharc_history_laws.proofs.Placed as Placed
 
@@ -222,7 +222,7 @@ module _ (cell_laws : CellsAreThere) (pointers : PointersAreThere) (rights : Acc
               let view = view_of h.state.elements h.world t m in
               let fit = fits_in x h.state.elements (refs_at view m.at.refs) (types_at view m.at.refs) (rn x code s ls wt fits g h.world h.state t on hold).names (int m q) ((ls.at m.at.pc).ints q) f.1 f.4 number in
               written d same site f.0 f.2 (ap written_cell is) _ now (word_of (int m q)) (ap (λ j. asked_by (act code s j m)) is)
-              (sym (back_again f.1 (int m q) fit) ∙ sym (ap (λ k. value_held k T' (word_of (int m q))) f.3))
+              (sym ((back_again f.1 (int m q) fit).0) ∙ sym (ap (λ k. value_held k T' (word_of (int m q))) f.3))
 
           at_exchange : (q site : ℕ) (d : Cell) → i ≡ Instr.Exchange q d site → c ≡ cell_at code ((place_after code s earlier).threads one.thread) d → Holds (pushed event L)
           at_exchange q site d is same =

@@ -1,5 +1,5 @@
 -- An object that was there before a turn and is there after it has cells with the same contents.
-use Rattle.sharc_history_laws.proofs.{Imports.{◌≡◌, ℕ, ◌+◌, ◌*◌, ◌%◌, ◌<◌, ◌≢◌, Bool, true, false, length, List, ◌∷◌, Some, refl, sym, ap, ◌∙◌, subst, ⊎_elim, arith, cases_eq, nat_tests, ◌==◌, Code, Instr, Shape, RunLaws, Fits, Machine, act, ref, turn, after, Turn, Global, MayTurn, state_now, result_of, one_thread, bounds, place_after, Elements, Targets, StaticType, Field, Content, Integer, MutexWord, Waiters, Pointer, cells_of, field_at, field_of_cell, field_in, globals_target, Label, Labels, empty, IsWellTyped, Fine, IsSameContent, ObjectState, World, objects_behind, owned, type_held, State, IsSmall, StageStands, Keeps, CellsAreThere, PointersAreThere, yes}, TurnAt.turn_at, Acts.{given_at, freed_at}, Born.filled_target, Consists.{Consists, consists_then, objects_then, given}, Contents.value_held, Rules.{same_behind, freed_gone, decide}, Single.rests_hold, Sparing.{is_value, holds_waiters}, Stands.{target_ref, sole_ref}, Tables.{header_of, was_live, length_kept}, Writes.writes, Carried.put_same}
+use Rattle.sharc_history_laws.proofs.{Imports.{◌≡◌, ℕ, ◌+◌, ◌*◌, ◌%◌, ◌<◌, ◌≢◌, Bool, true, false, length, List, ◌∷◌, Some, refl, sym, ap, ◌∙◌, subst, ⊎_elim, arith, cases_eq, nat_tests, ◌==◌, Code, Instr, Shape, RunLaws, Fits, Machine, act, ref, turn, after, Turn, Global, MayTurn, state_now, result_of, one_thread, bounds, place_after, Elements, Targets, StaticType, Field, Content, Integer, MutexWord, Waiters, Pointer, cells_of, field_at, field_of_cell, field_in, globals_target, Label, Labels, empty, IsWellTyped, Fine, IsSameContent, ObjectState, World, objects_behind, owned, type_held, State, IsSmall, StageStands, Keeps, CellsAreThere, PointersAreThere, yes, put_same}, TurnAt.turn_at, Acts.{given_at, freed_at}, Born.filled_target, Consists.{Consists, consists_then, objects_then, given}, Contents.value_held, Rules.{same_behind, freed_gone, decide}, Single.rests_hold, Sparing.{is_value, holds_waiters}, Stands.{target_ref, sole_ref}, Tables.{header_of, was_live, length_kept}, Writes.writes}
 
 -- ---- contents of one kind
 pub record SameContent (a b : Content) : Type 0 where

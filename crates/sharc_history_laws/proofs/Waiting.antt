@@ -1,5 +1,5 @@
 -- Whoever waits by the events stands where it waits, and the words of conditions have the bits of those who wait.
-use Rattle.sharc_history_laws.proofs.{Imports.{◌≡◌, ℕ, pos, zero, suc, ◌+◌, ◌^◌, ◌<◌, ◌≢◌, ◌⊎◌, inl, inr, Bool, true, false, not, ◌||◌, ◌&&◌, cond, List, ◌∷◌, Option, Some, None, if◌then◌else◌, refl, sym, ap, ◌∙◌, subst, ⊎_elim, arith, eqb-true, cases_eq, not_true, get_or-set_other, slice_index, ◌==◌, THREADS, WordOp, word_after, Act, CellAt, Object, SourceEvent, WaitersLaws, waits_in, lowest_of, without_lowest, Code, Cell, Instr, Shape, Stage, Links, Wakes, word_of, RunLaws, Fits, Machine, instr_at, int, ref, word, act, signal, is_of_null, step_of, goes, fails, turn, after, asked_by, Turn, Global, MayTurn, after_turn, put, state_now, words_now, said, cell_at, nobody, in_signal, event_at, one_thread, bounds, place_after, is_cell, same_cell, takes_away, Targets, Field, Content, Waiters, field_in, Gate, Closed, Labels, IsWellTyped, Accesses, HasCell, IsNotSole, In, RegisterOf, World, IsSmall, StageStands, EntryStands, OnHold, object_of_cell, number_in, view_of, refs_at, types_at, Keeps, CellsAreThere, PointersAreThere, AccessesAreAllowed, StateStands, WaitsFollow, same_is, ne_of as other_is, yes, is_condition, is_enter}, TurnAt.{turn_at, told_at, turn_stands}, Acts.thread_said, Born.born, Consists.{Consists, consists_then, after_set, found_is, headed, live_not_built}, Contents.{IsCellOf, content_of, word_of_cell, one_cell}, Emptying.{IsFreeing, IsEmptied, begins_freeing}, Holding.cell_eq, Lists.Newest, Locking.cell_refl, ModesKept.word_spared, OneMode.{place_of, numbers_now}, Queued.{waits_by, waits_behind, waiter_behind, other_event, no_condition, condition_elsewhere, no_enter, woken_leaves, enterless}, Outcomes.wakes_nobody, Rules.{pushed, about_now, decide}, Shared.number_of, Single.{single, rests_hold}, Sparing.{holds_waiters, spares_cell}, Touches.{is_mutex, waited_cell, written_cell}, Stands.{register_is, live_slot, some_base, there, top, reads_ref}, Tables.header_of, Unemptied.not_emptied, Valued.{cell_named, header_some, emptied_still}, Values.{Kept, kept}, Logged.{above as positive}, Carried.{put_same, put_other}}
+use Rattle.sharc_history_laws.proofs.{Imports.{◌≡◌, ℕ, pos, zero, suc, ◌+◌, ◌^◌, ◌<◌, ◌≢◌, ◌⊎◌, inl, inr, Bool, true, false, not, ◌||◌, ◌&&◌, cond, List, ◌∷◌, Option, Some, None, if◌then◌else◌, refl, sym, ap, ◌∙◌, subst, ⊎_elim, arith, eqb-true, cases_eq, not_true, get_or-set_other, slice_index, ◌==◌, THREADS, WordOp, word_after, Act, CellAt, Object, SourceEvent, WaitersLaws, waits_in, lowest_of, without_lowest, Code, Cell, Instr, Shape, Stage, Links, Wakes, word_of, RunLaws, Fits, Machine, instr_at, int, ref, word, act, signal, is_of_null, step_of, goes, fails, turn, after, asked_by, Turn, Global, MayTurn, after_turn, put, state_now, words_now, said, cell_at, nobody, in_signal, event_at, one_thread, bounds, place_after, is_cell, same_cell, takes_away, Targets, Field, Content, Waiters, field_in, Gate, Closed, Labels, IsWellTyped, Accesses, HasCell, IsNotSole, In, RegisterOf, World, IsSmall, StageStands, EntryStands, OnHold, object_of_cell, number_in, view_of, refs_at, types_at, Keeps, CellsAreThere, PointersAreThere, AccessesAreAllowed, StateStands, WaitsFollow, same_is, ne_of as other_is, yes, is_condition, is_enter, put_same, put_other, single}, TurnAt.{turn_at, told_at, turn_stands}, Acts.thread_said, Born.born, Consists.{Consists, consists_then, after_set, found_is, headed, live_not_built}, Contents.{IsCellOf, content_of, word_of_cell, one_cell}, Emptying.{IsFreeing, IsEmptied, begins_freeing}, Holding.cell_eq, Lists.Newest, Locking.cell_refl, ModesKept.word_spared, OneMode.{place_of, numbers_now}, Queued.{waits_by, waits_behind, waiter_behind, other_event, no_condition, condition_elsewhere, no_enter, woken_leaves, enterless}, Outcomes.wakes_nobody, Rules.{pushed, about_now, decide}, Shared.number_of, Single.rests_hold, Sparing.{holds_waiters, spares_cell}, Touches.{is_mutex, waited_cell, written_cell}, Stands.{register_is, live_slot, some_base, there, top, reads_ref}, Tables.header_of, Unemptied.not_emptied, Valued.{cell_named, header_some, emptied_still}, Values.{Kept, kept}, Logged.above as positive}
 use Rattle.sharc_meaning.specs.Store.{entered}
 use Rattle.sharc_history_laws.proofs.Placed as Placed
 

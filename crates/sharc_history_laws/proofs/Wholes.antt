@@ -1,5 +1,5 @@
 -- What holds behind each run of typed code, by all that is known of it.
-use Rattle.sharc_history_laws.proofs.{Imports.{◌≡◌, ℕ, ◌+◌, ◌<◌, true, List, [], ◌∷◌, Some, None, refl, sym, ap, ◌∙◌, subst, slice_index, Kind, Note, of_kind, note_of, ShadowLaws, stands, Code, Shape, ConflictAt, Conflict, RunLaws, Fits, granules, first_shadow, Machine, Turn, Global, place_after, BitsStand, marks_after, Labels, Keeps, CodeBegins, CellsAreThere, PointersAreThere, AccessesAreAllowed, StateStands, RunsBits, first_place, RunsConflict, IsSmall, IsWellTyped, Targets, yes}, TurnAt.RunOf, Cleared.{AllCleared, cleared_then, first_cleared}, Consists.{Consists, consists_then, at_first}, Logged.lacking, Remaining.{word_at, Remains, remains_then}, Shadows.at_low, Sole.{Halting, stop_none}, Noting.{blank_none, blank_at}}
+use Rattle.sharc_history_laws.proofs.{Imports.{◌≡◌, ℕ, ◌+◌, ◌<◌, true, List, [], ◌∷◌, Some, None, refl, sym, ap, ◌∙◌, subst, slice_index, Kind, Note, of_kind, note_of, ShadowLaws, stands, Code, Shape, ConflictAt, Conflict, RunLaws, Fits, granules, first_shadow, Machine, Turn, Global, place_after, BitsStand, marks_after, Labels, Keeps, CodeBegins, CellsAreThere, PointersAreThere, AccessesAreAllowed, StateStands, RunsBits, first_place, RunsConflict, IsSmall, IsWellTyped, Targets, yes, at_low}, TurnAt.RunOf, Cleared.{AllCleared, cleared_then, first_cleared}, Consists.{Consists, consists_then, at_first}, Logged.lacking, Remaining.{word_at, Remains, remains_then}, Sole.{Halting, stop_none}, Noting.{blank_none, blank_at}}
 
 -- the laws that it takes
 pub record TheLaws : Type 0 where

@@ -1,5 +1,5 @@
 -- From which granules a thread has withdrawn, after each turn.
-use Rattle.sharc_history_laws.proofs.{Imports.{◌≡◌, ℕ, zero, suc, ◌+◌, ◌<◌, ◌≤◌, Bool, true, false, ◌||◌, length, List, [], ◌∷◌, Option, Some, None, is_some, if◌then◌else◌, refl, sym, ap, ◌∙◌, subst, ⊎_elim, arith, eqb-true, cases_eq, not_true as unset, nat_tests, slice_index, slice_index_or, take, nat_lt, ◌==◌, list_any, Kind, Read, Write, Note, GranuleNotes, blank, has_note, of_kind, ListsNoted, note_of, site_at, Code, Instr, Shape, Stage, Clears, FreeClears, Withdraws, WithdrawsFrom, Leaves, granules, granule_at, Machine, act, exit, withdraws, withdrew, at_stage, row_of, ref, TurnsComeOut, is_exit, turn, after, Turn, Global, MayTurn, state_now, result_of, one_thread, bounds, Touch, Untouched, CheckOf, WithdrawOf, cleared_by, freed_by, withdrawn_by, touch_of, Heap, Labels, touch_at, State, StageStands, OnExit, Targets, has_withdrawn, is_withdrawing, is_ended, World, same_is, yes, same_or, or_right}, TurnAt.turn_at, Outcomes.{unended, withdraws_still, going_on}, Shadows.{row_low, at_low}, Carried.put_same}
+use Rattle.sharc_history_laws.proofs.{Imports.{◌≡◌, ℕ, zero, suc, ◌+◌, ◌<◌, ◌≤◌, Bool, true, false, ◌||◌, length, List, [], ◌∷◌, Option, Some, None, is_some, if◌then◌else◌, refl, sym, ap, ◌∙◌, subst, ⊎_elim, arith, eqb-true, cases_eq, not_true as unset, nat_tests, slice_index, slice_index_or, take, nat_lt, ◌==◌, list_any, Kind, Read, Write, Note, GranuleNotes, blank, has_note, of_kind, ListsNoted, note_of, site_at, Code, Instr, Shape, Stage, Clears, FreeClears, Withdraws, WithdrawsFrom, Leaves, granules, granule_at, Machine, act, exit, withdraws, withdrew, at_stage, row_of, ref, TurnsComeOut, is_exit, turn, after, Turn, Global, MayTurn, state_now, result_of, one_thread, bounds, Touch, Untouched, CheckOf, WithdrawOf, cleared_by, freed_by, withdrawn_by, touch_of, Heap, Labels, touch_at, State, StageStands, OnExit, Targets, has_withdrawn, is_withdrawing, is_ended, World, same_is, yes, same_or, or_right, put_same, row_low, at_low}, TurnAt.turn_at, Outcomes.{unended, withdraws_still, going_on}}
 use Rattle.sharc_heap.specs.Accesses.{Accesses}
 
 -- the thread has withdrawn from the granule

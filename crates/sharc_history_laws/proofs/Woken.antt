@@ -1,5 +1,5 @@
 -- The source events of each run of typed code that tell who waits may come after those before them.
-use Rattle.sharc_history_laws.proofs.{Imports.{◌≡◌, ℕ, pos, zero, suc, ◌+◌, ◌<◌, ◌^◌, ◌⊎◌, inl, inr, Bool, true, false, List, [], reverse, Option, Some, None, if◌then◌else◌, refl, sym, ap, ◌∙◌, subst, ⊎_elim, eqb-true, cases_eq, not_true, slice_index, ◌==◌, WordOp, Act, Object, CellAt, SourceEvent, Resolution, WaitersLaws, waits_in, lowest_of, without_lowest, Code, Cell, Instr, Shape, Stage, Wakes, RunLaws, Fits, Machine, word, act, signal, step_of, opening_words, turn, after, asked_by, Turn, Global, IsRun, MayTurn, after_turn, put, state_now, result_of, opening_of, said, cell_at, nobody, in_signal, event_at, one_thread, bounds, place_after, said_now, table_of, History, MayCome, is_waiter, Targets, Labels, IsWellTyped, IsSmall, Keeps, CodeBegins, CellsAreThere, PointersAreThere, AccessesAreAllowed, StateStands, history_of, BeginsWith, is_about_waiters, WaitsFollow, yes, is_condition}, TurnAt.{turn_at, told_at}, Consists.{Consists, at_first, found_is}, Contents.{IsCellOf, content_of, word_of_cell}, Emptying.IsEmptied, Outcomes.{wakes_still, wakes_nobody}, Lists.{Newest, Each, no_event}, Opening.{waiters_first, only_globals}, Queued.{waits_by, waiter_is, condition_of, condition_said, no_condition}, Rules.{over_runs, each_pushed, newest}, Shared.number_of, Sparing.holds_waiters, Touches.waited_cell, Waiting.{WaitersStand, WordsTell, Here, here, here_at_wait, bit_here, words_then, stands_then}, Logged.{above as positive}, Carried.{put_same, put_other}}
+use Rattle.sharc_history_laws.proofs.{Imports.{◌≡◌, ℕ, pos, zero, suc, ◌+◌, ◌<◌, ◌^◌, ◌⊎◌, inl, inr, Bool, true, false, List, [], reverse, Option, Some, None, if◌then◌else◌, refl, sym, ap, ◌∙◌, subst, ⊎_elim, eqb-true, cases_eq, not_true, slice_index, ◌==◌, WordOp, Act, Object, CellAt, SourceEvent, Resolution, WaitersLaws, waits_in, lowest_of, without_lowest, Code, Cell, Instr, Shape, Stage, Wakes, RunLaws, Fits, Machine, word, act, signal, step_of, opening_words, turn, after, asked_by, Turn, IsRun, MayTurn, after_turn, put, state_now, result_of, opening_of, said, cell_at, nobody, in_signal, event_at, one_thread, bounds, place_after, said_now, table_of, History, MayCome, is_waiter, Targets, Labels, IsWellTyped, IsSmall, Keeps, CodeBegins, CellsAreThere, PointersAreThere, AccessesAreAllowed, StateStands, history_of, BeginsWith, is_about_waiters, WaitsFollow, yes, is_condition, put_same, put_other}, TurnAt.{turn_at, told_at}, Consists.{Consists, at_first, found_is}, Contents.{IsCellOf, content_of, word_of_cell}, Emptying.IsEmptied, Outcomes.{wakes_still, wakes_nobody}, Lists.{Newest, Each, no_event}, Opening.{waiters_first, only_globals}, Queued.{waits_by, waiter_is, condition_of, condition_said, no_condition}, Rules.{over_runs, each_pushed, newest}, Shared.number_of, Sparing.holds_waiters, Touches.waited_cell, Waiting.{WaitersStand, WordsTell, Here, here, here_at_wait, bit_here, words_then, stands_then}, Logged.above as positive}
 
 -- what tells who waits may come
 abbrev pub IsTold : Resolution → History → SourceEvent → Type 0

@@ -1,5 +1,5 @@
 -- Which word a turn of typed code writes: one below the blocks, a count, a cell of a live object, or one of a block that the thread builds.
-use Rattle.sharc_history_laws.proofs.{Imports.{◌≡◌, ℕ, ◌+◌, ◌*◌, ◌<◌, ◌≤◌, true, ◌∙◌, WordStep, word_after, Code, Shape, Fits, granule_at, first_cell, Machine, StepTurn as Turn, Local, Asks, ref, word, layout_at, pointer_cell, turn, Global, Targets, Labels, IsWellTyped, World, Heap, Built, State, object_of_cell, number_in, IsOn, CellsAreThere, PointersAreThere, ObjectState}, Stands.there, Touches.{Touched, Touches, touches}}
+use Rattle.sharc_history_laws.proofs.{Imports.{◌≡◌, ℕ, ◌+◌, ◌*◌, ◌<◌, ◌≤◌, true, ◌∙◌, WordStep, word_after, Code, Shape, Fits, granule_at, first_cell, Machine, StepTurn as Turn, Local, Asks, ref, layout_at, pointer_cell, turn, Global, Targets, Labels, IsWellTyped, World, Heap, Built, State, object_of_cell, number_in, IsOn, CellsAreThere, PointersAreThere, ObjectState}, Stands.there, Touches.{Touched, Touches, touches}}
 use Rattle.sharc_invariant.specs.Words.{cell_at}
 
 pub data Wrote (s : Shape) (obj : ℕ → ObjectState) (cells : ℕ → ℕ) (heap : Heap) (t : ℕ) (step : WordStep) : Type 0 where

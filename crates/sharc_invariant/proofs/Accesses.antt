@@ -67,23 +67,21 @@ module _ (x : Targets) (code : Code) (s : Shape) (ls : Labels) (wt : IsWellTyped
       → Leads ls ((g.threads tr.thread).at.pc + 1) k → k.function ≡ here.function → GateStands s (set_win world tr.thread win) tr.thread m' (ls.at ((g.threads tr.thread).at.pc + 1)).gate → k.room ≡ here.room
       → State x code s ls after (set_win world tr.thread win)
   windowed_state m' win words k keeps done kw within ok sim tp below leads fn gt room =
-      let on = may.started in
-      let go = may.next.runs in
-      let rest = rests x code s ls wt g world st t on go i is single in
+      let rest = rests x code s ls wt g world st t may.started may.next.runs i is single in
       let rest' = ap (λ (o : Own'). o.stage) keeps.own ∙ rest in
       let w' = set_win world t win in
       let pc : m'.at.pc ≡ m.at.pc + 1 = ap (λ (a : At). a.pc) keeps.at in
       let fnc : (ls.at m'.at.pc).function ≡ here.function = ap (λ p. (ls.at p).function) pc ∙ leads.function ∙ fn in
       let er = ap (λ (a : At). a.refs) keeps.at in
       let ei = ap (λ (a : At). a.ints) keeps.at in
-      let own : KeepsOwn m m' = keeps_own x code s ls wt g world st t on go i is single m' (ap (with_own m'.own) keeps.own) (ap (λ (l : List ℕ). length l) keeps.refs) keeps.ints (ap (λ (l : List Frame). length l) keeps.frames)
-      (not_begun x code s ls wt g world st t on go i is single m'.at.pc fnc) (ap (λ (a : At). is_ended a.state) keeps.at) in
+      let own : KeepsOwn m m' = keeps_own x code s ls wt g world st t may.started may.next.runs i is single m' (ap (with_own m'.own) keeps.own) (ap (λ (l : List ℕ). length l) keeps.refs) keeps.ints (ap (λ (l : List Frame). length l) keeps.frames)
+      (not_begun x code s ls wt g world st t may.started may.next.runs i is single m'.at.pc fnc) (ap (λ (a : At). is_ended a.state) keeps.at) in
       let regs : put (λ u. register_of code (g.threads u)) t (register_of code m') ≡ (λ u. register_of code (g.threads u)) =
       fun_ext (put_self (λ u. register_of code (g.threads u)) t (register_of code m') (fun_ext (λ n. register_plain code m' rest' n ∙ ap (λ l. slice_index l n) keeps.refs ∙ sym (register_plain code m rest n)))) in
       let sim1 : Shows x s st.cells st.elements (record (conc_of code g) { words = λ j. slice_index words j; regs = put (λ u. register_of code (g.threads u)) t (register_of code m') }) w' =
       subst (λ r. Shows x s st.cells st.elements (record (conc_of code g) { words = λ j. slice_index words j; regs = r }) w') (sym regs) (sim_win x s st.cells st.elements (record (conc_of code g) { words = λ j. slice_index words j }) world (put world.win t win) sim) in
       let sim2 = subst (λ c. Shows x s st.cells st.elements c w') (sym (conc_plain code g t words m' (noted_same m m' (ap (λ (o : Own'). o.table) keeps.own) rest rest' own.ended_before own.ended))) sim1 in
-      subst (λ y. State x code s ls y w') (sym done) (quiet_state x code s ls g world st t on words m' own kw w' (record { obj = refl; mutex = refl; args = λ u. refl })
+      subst (λ y. State x code s ls y w') (sym done) (quiet_state x code s ls g world st t may.started words m' own kw w' (record { obj = refl; mutex = refl; args = λ u. refl })
       (record { regs = λ u _ r. refl; win = λ u ne. put_other world.win t u win ne; passed = λ u _ o p b _ q. q; sole = λ u _ r _ p. loses refl; cells = λ u _ r _ n. refl; built = λ u _ b e. (e, refl); within = λ u _ b e j n. within u b j e n })
       wt (set_win_ok (size_of_run code s) (lang_of x) world st.inv t win ok) sim2
       (λ _. runs_at x code s ls st.elements w' (heap_now st.heap words) (made_turn g t words m') t m' names rest'
@@ -93,7 +91,7 @@ module _ (x : Targets) (code : Code) (s : Shape) (ls : Labels) (wt : IsWellTyped
       (subst (FramesStand x code ls t (view_of st.elements world t m') m') (sym fnc) below)
       (subst (λ p. GateStands s w' t m' (ls.at p).gate) (sym pc) gt)
       (λ q. let r1 : (ls.at (m.at.pc + 1)).room ≡ true = subst (λ p. (ls.at p).room ≡ true) pc q in
-      subst (λ (l : List HeldMutex). length l < 16) (sym (ap (λ (o : Own'). o.held) keeps.own)) ((runs x code s ls wt g world st t on go i is single).room (sym room ∙ leads.room r1))))
+      subst (λ (l : List HeldMutex). length l < 16) (sym (ap (λ (o : Own'). o.held) keeps.own)) ((runs x code s ls wt g world st t may.started may.next.runs i is single).room (sym room ∙ leads.room r1))))
       (λ q. let z : may_go m'.at.state ≡ true = ap (λ (a : At). may_go a.state) keeps.at in absurd (cc))
       (room_of code s g tr may words m' done))
 
@@ -155,8 +153,6 @@ module _ (x : Targets) (code : Code) (s : Shape) (ls : Labels) (wt : IsWellTyped
       let o = object_of_cell m c in
       let j = number_in m c in
       let k = cell_at s o j in
-      let on = may.started in
-      let go = may.next.runs in
       let z = int_of (slice_index g.words (word s m c)) in
       let m' = goes (accessed (set_int m r z)) in
       let done0 = asks_turn code s g tr may (step_of (word s m c) Load) (λ found. goes (accessed (set_int m r (int_of found)))) act_is in
@@ -166,12 +162,12 @@ module _ (x : Targets) (code : Code) (s : Shape) (ls : Labels) (wt : IsWellTyped
       let b : FitsContent (Integer w) (slice_index g.words k) = subst (λ h. FitsContent h (slice_index g.words k)) (ap (λ (f : Field). f.holds) th.field ∙ holds_int) a in
       ap (λ k. holds w (int_of (slice_index g.words k))) th.word_is ∙ b in
       let lt : m.at.ints + r < length m.ints = subst (λ b. m.at.ints + r < b) (sym (st.threads t).has.ints) (int_inside x code ls t view m here.function r below_here isint) in
-      let e = view_set x code s ls wt g world st t on go i is single r z lt in (
+      let e = view_set x code s ls wt g world st t may.started may.next.runs i is single r z lt in (
         set_win world t Shut,
         windowed_state m' Shut g.words (set_number here r (Within w)) (record { at = refl; refs = refl; ints = length-set m.ints (m.at.ints + r) z; frames = refl; own = refl }) done
             (same_words x code s ls g world st) (λ u b j _ _. refl) tt st.sim
-            (subst (λ v. TopStands x t v m.at.refs m.at.ints names (set_number here r (Within w))) (sym e) (number_top x code s ls wt g world st t on go i is single names r z (Within w) here fit top_here))
-            (vals_below x code s ls wt g world st t on go i is single r z (view_of st.elements world t m') e m' refl refl refl refl here.function below_here)
+            (subst (λ v. TopStands x t v m.at.refs m.at.ints names (set_number here r (Within w))) (sym e) (number_top x code s ls wt g world st t may.started may.next.runs i is single names r z (Within w) here fit top_here))
+            (vals_below x code s ls wt g world st t may.started may.next.runs i is single r z (view_of st.elements world t m') e m' refl refl refl refl here.function below_here)
             leads refl (shut_gate (ls.at (m.at.pc + 1)).gate leads.gate m') refl,
         Accesses false (base_of_cell m c) j (may_access false c site f access) alone (silent_window Shut alone),
       )

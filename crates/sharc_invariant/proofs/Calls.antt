@@ -123,16 +123,14 @@ module _ (x : Targets) (code : Code) (s : Shape) (ls : Labels) (wt : IsWellTyped
   pub Call_keeps : (to ints refs site : ℕ) → instr_at code (g.threads tr.thread).at.pc ≡ Instr.Call to ints refs site → Turned x code s ls g world tr
   Call_keeps to ints refs site is =
       let i = Instr.Call to ints refs site in
-      let on = may.started in
-      let go = may.next.runs in
-      let fi = fine x code s ls wt g world st t on go i is refl in
+      let fi = fine x code s ls wt g world st t may.started may.next.runs i is refl in
       let f = fi.1.0 in
       let calls = fi.1.1 in
       let leads = fi.1.2 in
-      let rn = runs x code s ls wt g world st t on go i is refl in
-      let tp = top x code s ls wt g world st t on go i is refl in
-      let rest = rests x code s ls wt g world st t on go i is refl in
-      let shut = is_shut x code s ls wt g world st t on go i is refl fi.0 in
+      let rn = runs x code s ls wt g world st t may.started may.next.runs i is refl in
+      let tp = top x code s ls wt g world st t may.started may.next.runs i is refl in
+      let rest = rests x code s ls wt g world st t may.started may.next.runs i is refl in
+      let shut = is_shut x code s ls wt g world st t may.started may.next.runs i is refl fi.0 in
       let fr : Frame = record { pc = m.at.pc + 1; ints = m.at.ints; refs = m.at.refs } in
       let m' : Machine = record m { at = record { pc = to; ints = m.at.ints + ints; refs = m.at.refs + refs; depth = m.at.depth + 1; state = RunsOn }; frames = slice_set m.frames m.at.depth fr } in
       let settled : (n : Machine) → turn code s m ≡ Local n → State x code s ls (made_turn g t g.words n) world → Turned x code s ls g world tr = λ n e k.
@@ -150,12 +148,12 @@ module _ (x : Targets) (code : Code) (s : Shape) (ls : Labels) (wt : IsWellTyped
             let few : m.at.depth + 1 ≤ FRAMES = let q = (st.threads t).has.frames in omega arith in
             let gate' : (ls.at to).gate ≡ Closed = closed_less (ls.at to).gate entry.gate in
             let begun : (to == 0) ≡ false = ne_eq to 0 (λ z. let q : Some f ≡ None = sym entry.function ∙ ap (λ p. (ls.at p).function) z ∙ wt.first.0 in cc) in
-            settled m' e (plain_state x code s ls wt g world st t on go i is refl m' (keeps_own x code s ls wt g world st t on go i is refl m' refl refl refl (length-set m.frames m.at.depth fr) begun refl) refl refl
+            settled m' e (plain_state x code s ls wt g world st t may.started may.next.runs i is refl m' (keeps_own x code s ls wt g world st t may.started may.next.runs i is refl m' refl refl refl (length-set m.frames m.at.depth fr) begun refl) refl refl
             (λ _. runs_at x code s ls st.elements world (heap_now st.heap g.words) (made_turn g t g.words m') t m' rn.names rest
             (less_stands x t view (m.at.refs + refs) (m.at.ints + ints) rn.names (entry_label ls f) (ls.at to) entry (entry_top x t view m.at.refs m.at.ints rn.names here tp refs ints code ls to f calls (wt.plain f).bases))
             (subst (FramesStand x code ls t view m') (sym entry.function) (stack', few, λ q. below.2 (calls.caller.2 q)))
             (subst (GateStands s world t m') (sym gate') shut)
             (λ q. let z : false ≡ true = entry.room q in absurd (cc)))
             (λ q. absurd (cc)) (room_at m' e))
-        | false ↦ λ b e. settled (stopped m (Trap traps.CallDepth site)) e (stop_state x code s ls wt g world st t on go i is refl (Trap traps.CallDepth site) shut (room_at (stopped m (Trap traps.CallDepth site)) e))
+        | false ↦ λ b e. settled (stopped m (Trap traps.CallDepth site)) e (stop_state x code s ls wt g world st t may.started may.next.runs i is refl (Trap traps.CallDepth site) shut (room_at (stopped m (Trap traps.CallDepth site)) e))
       ] refl (ap (λ i. Rattle.sharc_code.specs.Machine.act code s i m) is)

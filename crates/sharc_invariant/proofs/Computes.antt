@@ -59,12 +59,11 @@ operator_gives w AtMost a b ha hb = truth_gives w (int_le a b)
 operator_gives w AtLeast a b ha hb = truth_gives w (int_le b a)
 
 module _ (x : Targets) (code : Code) (s : Shape) (ls : Labels) (wt : IsWellTyped x code ls) (g : Global Machine) (world : World) (st : State x code s ls g world) (tr : Turn) (may : MayTurn bounds (one_thread code s) g tr) where
-  open turn_at st tr use {m as mm}
+  open turn_at st tr use {t, m as mm}
 
   -- an integer of which a width is known
   pub fits_now : (i : Instr) (is : instr_at code (g.threads tr.thread).at.pc ≡ i) (single : is_single i ≡ true) (r : ℕ) (w : Width) → FitsWidth ((ls.at (g.threads tr.thread).at.pc).ints r) w → holds w (int (g.threads tr.thread) r) ≡ true
   fits_now i is single r w fit =
-      let t = tr.thread in
       let rn = runs x code s ls wt g world st t may.started may.next.runs i is single in
       let tp = top x code s ls wt g world st t may.started may.next.runs i is single in
       let view = view_of st.elements world t mm in

@@ -97,8 +97,6 @@ module _ (x : Targets) (code : Code) (s : Shape) (ls : Labels) (wt : IsWellTyped
       → TopStands x t (filled view (base + d) h.reference h.ty) base m.at.ints (runs x code s ls wt g world st t may.started may.next.runs i is single).names k
       → Leads ls ((g.threads tr.thread).at.pc + 1) k → k.function ≡ here.function → k.gate ≡ Closed → (k.room ≡ true → length (g.threads tr.thread).own.held < 16) → State x code s ls after (grow closed (RegisterOf t (base + d)) h)
   raised_state i is single d h m' slot o on_w nz act_is sets isr empty_d fits eslot apart k tp leads fn gt room =
-      let on = may.started in
-      let go = may.next.runs in
       let q = base + d in
       let nzw : h.reference ≢ 0 = λ z. nz (sym on_w ∙ z) in
       let live : (world.obj o).live ≡ true = subst (λ p. (world.obj p).live ≡ true) on_w (fits nzw).live in
@@ -122,11 +120,11 @@ module _ (x : Targets) (code : Code) (s : Shape) (ls : Labels) (wt : IsWellTyped
       let sim2 = reg_stored x s st.cells st.elements c1 w1 sim1 st.apart t q h in
       let sim3 : Shows x s st.cells st.elements (set_reg c1 t q h.reference) w' = subst (λ p. Shows x s st.cells st.elements (set_reg c1 t q h.reference) (record closed { slots = place world.slots (In (RegisterOf t q)) h; count = put world.count p (world.count p + 1) })) (sym on_w) sim2 in
       let sim4 : Shows x s st.cells st.elements (set_reg (record (conc_of code g) { words = λ j. slice_index words j }) t q h.reference) w' = subst (λ f. Shows x s st.cells st.elements (set_reg (record (conc_of code g) { words = f }) t q h.reference) w') (sym ws) sim3 in
-      subst (λ y. State x code s ls y w') (sym done) (filled_state x code s ls wt g world st t on go i is single d h m' w' words k sets isr refl refl refl refl
+      subst (λ y. State x code s ls y w') (sym done) (filled_state x code s ls wt g world st t may.started may.next.runs i is single d h m' w' words k sets isr refl refl refl refl
       (λ u ne. put_other world.win t u Shut ne) closed_shut
       (stored_words x code s ls g world st at (world.count o + 1) ms lt small (λ i l e. absurd (omega arith)))
       (stored_within x code s ls g world st at (world.count o + 1) ms lt)
-      (grow_ok (size_of_run code s) (lang_of x) closed closed_inv (RegisterOf t q) h slot (inside_world x code s ls wt g world st t on go i is single d isr) empty_d nzw fits eslot
+      (grow_ok (size_of_run code s) (lang_of x) closed closed_inv (RegisterOf t q) h slot (inside_world x code s ls wt g world st t may.started may.next.runs i is single d isr) empty_d nzw fits eslot
       (λ u r e es. ⊎_elim
       (λ (eu : u ≡ t). let z : Shut ≡ Sole r = sym closed_shut ∙ ap closed.win (sym eu) ∙ e in cc)
       (λ (ne : u ≡ t → ⊥). apart u r (sym (put_other world.win t u Shut ne) ∙ e) es)
@@ -137,28 +135,26 @@ module _ (x : Targets) (code : Code) (s : Shape) (ls : Labels) (wt : IsWellTyped
   pub Raise_keeps : (d from : ℕ) → instr_at code (g.threads tr.thread).at.pc ≡ Instr.Raise d from → Turned
   Raise_keeps d from is =
       let i = Instr.Raise d from in
-      let on = may.started in
-      let go = may.next.runs in
-      let f = fine x code s ls wt g world st t on go i is refl in
+      let f = fine x code s ls wt g world st t may.started may.next.runs i is refl in
       let k = base + d in
       let h0 = world.slots (In (RegisterOf t (base + from))) in
       let m' = goes (set_ref m d (ref m from)) in
-      let shut = is_shut x code s ls wt g world st t on go i is refl f.0 in
+      let shut = is_shut x code s ls wt g world st t may.started may.next.runs i is refl f.0 in
       let tops1 = tops i is refl in
       let is_refs = in_world i is refl from in
       let act_is : turn code s m ≡ raise s (ref m from) m' = ap (λ i. Rattle.sharc_code.specs.Machine.act code s i m) is in
       let empty_d : in_ref world (RegisterOf t k) ≡ 0 = subst (EntryStands refs (types_at view base) d) f.1.empty ((tops1 (suc d) 0).env d (omega arith)) in
       let free = free_shut world t k shut in
-      let room_ok : (k1 : Label) → k1.room ≡ here.room → k1.room ≡ true → length m.own.held < 16 = λ k1 e q. (runs x code s ls wt g world st t on go i is refl).room (sym e ∙ q) in
+      let room_ok : (k1 : Label) → k1.room ≡ here.room → k1.room ≡ true → length m.own.held < 16 = λ k1 e q. (runs x code s ls wt g world st t may.started may.next.runs i is refl).room (sym e ∙ q) in
       ⊎_elim
       (λ (z : ref m from ≡ 0).
       let w' = set_slot world (RegisterOf t k) (null h0.ty) in
       let done = local_turn code s g tr may m' (act_is ∙ raise_zero s (ref m from) m' z) in
       let h = null h0.ty in (
         w',
-        subst (λ y. State x code s ls y w') (sym done) (filled_state x code s ls wt g world st t on go i is refl d h m' (set_slot world (RegisterOf t k) (null h0.ty)) g.words (fill here d (here.env from) (here.same from) (here.known from))
+        subst (λ y. State x code s ls y w') (sym done) (filled_state x code s ls wt g world st t may.started may.next.runs i is refl d h m' (set_slot world (RegisterOf t k) (null h0.ty)) g.words (fill here d (here.env from) (here.same from) (here.known from))
             (record { at = refl; refs = ap (slice_set m.refs k) z; ints = refl; frames = refl; own = refl }) f.1.is refl refl refl refl (λ u _. refl) shut (same_words x code s ls g world st) (λ u b j _ _. refl)
-            (set_slot_ok (size_of_run code s) (lang_of x) world st.inv (RegisterOf t k) h0.ty (inside_world x code s ls wt g world st t on go i is refl d f.1.is) empty_d free)
+            (set_slot_ok (size_of_run code s) (lang_of x) world st.inv (RegisterOf t k) h0.ty (inside_world x code s ls wt g world st t may.started may.next.runs i is refl d f.1.is) empty_d free)
             (reg_stored x s st.cells st.elements (conc_of code g) world st.sim st.apart t k h)
             (copy_top i is refl d from 0 (sym z ∙ is_refs) f.1.empty)
             f.3 refl refl (room_ok (fill here d (here.env from) (here.same from) (here.known from)) refl) (room_of code s g tr may g.words m' done)),
@@ -183,16 +179,14 @@ module _ (x : Targets) (code : Code) (s : Shape) (ls : Labels) (wt : IsWellTyped
       → ((q : ℕ) → q ≢ r → EntryMentions (e q) r → ⊥) → Leads ls ((g.threads tr.thread).at.pc + 1) (empty (record here { env = e }) r) → Turned
   lowered r is e closed within top0 free0 leads0 =
       let i = Instr.Lower r in
-      let on = may.started in
-      let go = may.next.runs in
       let k = base + r in
       let h0 = world.slots (In (RegisterOf t k)) in
       let m' = goes (set_ref m r 0) in
-      let shut = is_shut x code s ls wt g world st t on go i is refl closed in
+      let shut = is_shut x code s ls wt g world st t may.started may.next.runs i is refl closed in
       let is_refs = in_world i is refl r in
       let act_is : turn code s m ≡ lower s (ref m r) m' = ap (λ i. Rattle.sharc_code.specs.Machine.act code s i m) is in
       let free = free_shut world t k shut in
-      let room_ok : (empty (record here { env = e }) r).room ≡ true → length m.own.held < 16 = (runs x code s ls wt g world st t on go i is refl).room in
+      let room_ok : (empty (record here { env = e }) r).room ≡ true → length m.own.held < 16 = (runs x code s ls wt g world st t may.started may.next.runs i is refl).room in
       let tp = empty_stands x t view base m.at.ints (names i is refl) (record here { env = e }) r nothing free0 top0 in
       let sets : SetsRef m m' r 0 = record { at = refl; refs = refl; ints = refl; frames = refl; own = refl } in
       ⊎_elim
@@ -200,9 +194,9 @@ module _ (x : Targets) (code : Code) (s : Shape) (ls : Labels) (wt : IsWellTyped
       let w' = set_slot world (RegisterOf t k) none in
       let done = local_turn code s g tr may m' (act_is ∙ lower_zero s (ref m r) m' z) in (
         w',
-        subst (λ y. State x code s ls y w') (sym done) (filled_state x code s ls wt g world st t on go i is refl r none m' (set_slot world (RegisterOf t k) none) g.words (empty (record here { env = e }) r)
+        subst (λ y. State x code s ls y w') (sym done) (filled_state x code s ls wt g world st t may.started may.next.runs i is refl r none m' (set_slot world (RegisterOf t k) none) g.words (empty (record here { env = e }) r)
             sets within refl refl refl refl (λ u _. refl) shut (same_words x code s ls g world st) (λ u b j _ _. refl)
-            (set_slot_ok (size_of_run code s) (lang_of x) world st.inv (RegisterOf t k) nothing (inside_world x code s ls wt g world st t on go i is refl r within) (sym is_refs ∙ z) free)
+            (set_slot_ok (size_of_run code s) (lang_of x) world st.inv (RegisterOf t k) nothing (inside_world x code s ls wt g world st t may.started may.next.runs i is refl r within) (sym is_refs ∙ z) free)
             (reg_stored x s st.cells st.elements (conc_of code g) world st.sim st.apart t k none)
             tp leads0 refl refl room_ok (room_of code s g tr may g.words m' done)),
         Silently (filled_silent w' k none refl refl refl refl (λ u _. refl) (never_sole shut)),
@@ -236,7 +230,7 @@ module _ (x : Targets) (code : Code) (s : Shape) (ls : Labels) (wt : IsWellTyped
       let sim3 : Shows x s st.cells st.elements (set_reg c1 t k 0) w' = subst (λ p. Shows x s st.cells st.elements (set_reg c1 t k 0) (record world { slots = place world.slots (In (RegisterOf t k)) none; count = put world.count p (world.count p - 1) })) (sym on_w) sim2 in
       let sim4 : Shows x s st.cells st.elements (set_reg (record (conc_of code g) { words = λ j. slice_index words j }) t k 0) w' = subst (λ f. Shows x s st.cells st.elements (set_reg (record (conc_of code g) { words = f }) t k 0) w') (sym ws) sim3 in (
         w',
-        subst (λ y. State x code s ls y w') (sym done) (filled_state x code s ls wt g world st t on go i is refl r none m' w' words (empty (record here { env = e }) r) sets within refl refl refl refl (λ u _. refl) shut
+        subst (λ y. State x code s ls y w') (sym done) (filled_state x code s ls wt g world st t may.started may.next.runs i is refl r none m' w' words (empty (record here { env = e }) r) sets within refl refl refl refl (λ u _. refl) shut
             (stored_words x code s ls g world st at v ms lt (omega arith) (λ i l e. absurd (omega arith)))
             (stored_within x code s ls g world st at v ms lt)
             (drop_ok (size_of_run code s) (lang_of x) world st.inv (RegisterOf t k) nzw free)

@@ -88,10 +88,8 @@ module _ (x : Targets) (code : Code) (s : Shape) (ls : Labels) (wt : IsWellTyped
     stop_loaded why c loaded win e =
         let m' = stopped m why in
         let done = local_turn code s g tr may m' e in
-        let on = may.started in
-        let go = may.next.runs in
-        let own : KeepsOwn m m' = keeps_own x code s ls wt g world st t on go i is single m' refl refl refl refl (begun_before x code s ls wt g world st t on go i is single) refl in
-        unseen x code s ls g world tr _ done (plain_state x code s ls wt g world st t on go i is single m' own refl refl (λ q. absurd (cc))
+        let own : KeepsOwn m m' = keeps_own x code s ls wt g world st t may.started may.next.runs i is single m' refl refl refl refl (begun_before x code s ls wt g world st t may.started may.next.runs i is single) refl in
+        unseen x code s ls g world tr _ done (plain_state x code s ls wt g world st t may.started may.next.runs i is single m' own refl refl (λ q. absurd (cc))
         (λ _. subst (StopStands world t m') (sym loaded) (still c win)) (room_of code s g tr may g.words m' done))
       where
         still : (c : Cell) → world.win tr.thread ≡ IsLoaded (base_of_cell (g.threads tr.thread) c) (number_in (g.threads tr.thread) c) (g.threads tr.thread).pending

@@ -26,19 +26,17 @@ module _ (x : Targets) (code : Code) (s : Shape) (ls : Labels) (wt : IsWellTyped
   pub Raise_loaded_keeps : (r : ℕ) → instr_at code (g.threads tr.thread).at.pc ≡ Instr.RaiseLoaded r → Turned x code s ls g world tr
   Raise_loaded_keeps r is =
       let i = Instr.RaiseLoaded r in
-      let on = may.started in
-      let go = may.next.runs in
-      let f = fine x code s ls wt g world st t on go i is refl in
+      let f = fine x code s ls wt g world st t may.started may.next.runs i is refl in
       let c = f.1.0 in
       let ty = f.1.2 in
       let o = object_of_cell m c in
       let j = number_in m c in
       let v = m.pending in
       let k = base + r in
-      let rn = runs x code s ls wt g world st t on go i is refl in
-      let tp = top x code s ls wt g world st t on go i is refl in
-      let reads : (q : ℕ) → ref m q ≡ in_ref world (RegisterOf t (base + q)) = λ q. sym (st.sim.regs t (base + q) ∙ register_plain code m (rests x code s ls wt g world st t on go i is refl) (base + q)) in
-      let gt = gate x code s ls wt g world st t on go i is refl in
+      let rn = runs x code s ls wt g world st t may.started may.next.runs i is refl in
+      let tp = top x code s ls wt g world st t may.started may.next.runs i is refl in
+      let reads : (q : ℕ) → ref m q ≡ in_ref world (RegisterOf t (base + q)) = λ q. sym (st.sim.regs t (base + q) ∙ register_plain code m (rests x code s ls wt g world st t may.started may.next.runs i is refl) (base + q)) in
+      let gt = gate x code s ls wt g world st t may.started may.next.runs i is refl in
       let win : world.win t ≡ Loaded (base_of_cell m c) j v = subst (GateStands s world t m) f.1.3 gt in
       let ok : WinOk (lang_of x) world t (Loaded (base_of_cell m c) j v) = subst (WinOk (lang_of x) world t) win (st.inv.wins t) in
       let th = cell_there x code s ls wt fits g world st t m rn.names here tp reads c f.1.1 f.1.4 in
@@ -50,7 +48,7 @@ module _ (x : Targets) (code : Code) (s : Shape) (ls : Labels) (wt : IsWellTyped
       let m' = goes (accessed (set_ref m r v)) in
       let act_is : turn code s m ≡ raise s v m' = ap (λ i. Rattle.sharc_code.specs.Machine.act code s i m) is in
       let empty_d : in_ref world (RegisterOf t k) ≡ 0 = subst (EntryStands (refs_at view base) (types_at view base) r) f.0.empty ((tp (suc r) 0).env r (omega arith)) in
-      let pointed = points_to x code s ls wt fits g world st t (st.begins.few t on) rn.names here tp reads rn.below gt c f.1.1 ty v f.1.4 f.1.5 in
+      let pointed = points_to x code s ls wt fits g world st t (st.begins.few t may.started) rn.names here tp reads rn.below gt c f.1.1 ty v f.1.4 f.1.5 in
       let filled_top : (n : ℕ) → n ≡ v → TopStands x t (filled view k n h.ty) base m.at.ints rn.names k' = λ n e.
       fill_stands x t view base m.at.ints rn.names here (ints_in code here.function) (refs_in code here.function) r n h.ty (Refers ty) r false (wt.scoped m.at.pc) f.0.empty f.1.6 (λ _. pointed ∙ ap (λ v. type_of (refs_at view base) v ty) (sym e)) (inl refl) (λ z. absurd (cc)) tp in
       ⊎_elim
@@ -60,9 +58,9 @@ module _ (x : Targets) (code : Code) (s : Shape) (ls : Labels) (wt : IsWellTyped
       let done = local_turn code s g tr may m' (act_is ∙ raise_zero s v m' z) in
       let shut = closed_shut x code s ls wt few g world st tr may in (
         w',
-        subst (λ y. State x code s ls y w') (sym done) (filled_state x code s ls wt g world st t on go i is refl r (null h.ty) m' w' g.words k'
+        subst (λ y. State x code s ls y w') (sym done) (filled_state x code s ls wt g world st t may.started may.next.runs i is refl r (null h.ty) m' w' g.words k'
             (record { at = refl; refs = ap (slice_set m.refs k) z; ints = refl; frames = refl; own = refl }) f.0.is refl refl refl refl (λ u ne. put_other world.win t u Shut ne) shut (same_words x code s ls g world st) (λ u b j _ _. refl)
-            (set_slot_ok (size_of_run code s) (lang_of x) closed (closed_inv x code s ls wt few g world st tr may) (RegisterOf t k) h.ty (inside_world x code s ls wt g world st t on go i is refl r f.0.is) empty_d (free_shut closed t k shut))
+            (set_slot_ok (size_of_run code s) (lang_of x) closed (closed_inv x code s ls wt few g world st tr may) (RegisterOf t k) h.ty (inside_world x code s ls wt g world st t may.started may.next.runs i is refl r f.0.is) empty_d (free_shut closed t k shut))
             (reg_stored x s st.cells st.elements (conc_of code g) closed (closed_sim x code s ls wt few g world st tr may) st.apart t k (null h.ty))
             (filled_top 0 (sym z)) f.1.7 refl refl rn.room (room_of code s g tr may g.words m' done)),
         Silently (filled_silent x code s ls wt few g world st tr may w' k (null h.ty) refl refl refl refl (λ u ne. put_other world.win t u Shut ne) never),

@@ -48,8 +48,6 @@ module _ (x : Targets) (code : Code) (s : Shape) (ls : Labels) (wt : IsWellTyped
       → TopStands x tr.thread (view_of st.elements (with_slots f) tr.thread (moved rs hd)) base (g.threads tr.thread).at.ints names k' → FramesStand x code ls tr.thread (view_of st.elements (with_slots f) tr.thread (moved rs hd)) (moved rs hd) here.function
       → (Silent world (with_slots f) → Effect (lang_of x) tr.thread (has_returned (g.threads tr.thread)) (changes_objects (instr_at code (g.threads tr.thread).at.pc) (g.threads tr.thread)) world (changed f o j v)) → Turned x code s ls g world tr
   mutex_state o j v lo lj mx small f rs hd lr done lt lg fr fa fc inv sim ch shut k' leads fn gt room tp below effect =
-      let on = may.started in
-      let go = may.next.runs in
       let m' = moved rs hd in
       let k = cell_at s o j in
       let words = slice_set g.words k v in
@@ -62,11 +60,11 @@ module _ (x : Targets) (code : Code) (s : Shape) (ls : Labels) (wt : IsWellTyped
         making = refl;
         staged = refl;
         spawns = λ n h. h;
-        begun_before = begun_before x code s ls wt g world st t on go i is single;
-        begun = not_begun x code s ls wt g world st t on go i is single (m.at.pc + 1) (leads.function ∙ fn);
+        begun_before = begun_before x code s ls wt g world st t may.started may.next.runs i is single;
+        begun = not_begun x code s ls wt g world st t may.started may.next.runs i is single (m.at.pc + 1) (leads.function ∙ fn);
       } in
       let nt : (kind : Kind) → put (λ u. noted_by (g.threads u) kind) t (noted_by m' kind) ≡ (λ u. noted_by (g.threads u) kind) = λ kind.
-      fun_ext (put_self (λ u. noted_by (g.threads u) kind) t (noted_by m' kind) (fun_ext (noted_same m m' refl rest rest (going x code s ls wt g world st t on go i is single) refl kind))) in
+      fun_ext (put_self (λ u. noted_by (g.threads u) kind) t (noted_by m' kind) (fun_ext (noted_same m m' refl rest rest (going x code s ls wt g world st t may.started may.next.runs i is single) refl kind))) in
       let nw = nt Write in
       let c1 = record (conc_of code g) { regs = put R t (register_of code m'); logs = put L t (logged m') } in
       let sim1 : Shows x s st.cells st.elements (record c1 { words = put (λ n. slice_index g.words n) k v }) w' = mutex_stored x s st.cells st.elements c1 (with_slots f) sim st.apart o j v lo lj mx in
@@ -76,7 +74,7 @@ module _ (x : Targets) (code : Code) (s : Shape) (ls : Labels) (wt : IsWellTyped
       let locks = locks_changed x s st.cells st.elements (conc_of code g) world g st.sim st.apart st.locks t o j v lo lj mx words m' f ch in
       let other : (u q : ℕ) → world.win u ≡ Sole q → u ≡ t → ⊥ = λ u q e z. let y : Shut ≡ Sole q = sym shut ∙ ap world.win (sym z) ∙ e in cc in (
         w',
-        subst (λ y. State x code s ls y w') (sym done) (loud_state x code s ls g world st t on words m' own
+        subst (λ y. State x code s ls y w') (sym done) (loud_state x code s ls g world st t may.started words m' own
             (stored_words x code s ls g world st k v ms lt small (λ n l e. absurd (let h = st.apart.headers o lo in omega arith))) w' (record { obj = refl; args = fa })
             (record {
               regs = fr;
@@ -88,7 +86,7 @@ module _ (x : Targets) (code : Code) (s : Shape) (ls : Labels) (wt : IsWellTyped
               within = λ u _ b e j n. stored_within x code s ls g world st k v ms lt u b j e n;
             })
             wt inv (subst (λ c. Shows x s st.cells st.elements c w') (sym ce) sim2) locks
-            (λ _. next_runs x code s ls wt g world st t on go i is single w' (heap_now st.heap words) (made_turn g t words m') m' names k' rest fn gt leads tp below shut room)
+            (λ _. next_runs x code s ls wt g world st t may.started may.next.runs i is single w' (heap_now st.heap words) (made_turn g t words m') m' names k' rest fn gt leads tp below shut room)
             (λ q. absurd (cc)) (room_of code s g tr may words m' done)),
         effect (record { obj = refl; mutex = refl; passed = λ o p u b q. q; sole = λ u q e. (e, ap (λ (h : TypedReference). h.reference) (fr u (other u q e) q)) }),
       )
@@ -153,17 +151,15 @@ module _ (x : Targets) (code : Code) (s : Shape) (ls : Labels) (wt : IsWellTyped
       lock_object : (r : ℕ) → (o ≡ ref (g.threads tr.thread) r) → after ≡ made_turn g tr.thread (slice_set g.words k (suc tr.thread)) (moved (slice_set (g.threads tr.thread).refs (base + r) 0) hd)
           → IsRef code here r → IsFree here r → Leads ls ((g.threads tr.thread).at.pc + 1) (record (empty here r) { room = false }) → Turned x code s ls g world tr
       lock_object r eo done isr free leads =
-          let on = may.started in
-          let go = may.next.runs in
           let rs = slice_set m.refs (base + r) 0 in
           let m' = moved rs hd in
           let kr = base + r in
-          let rn = runs x code s ls wt g world st t on go i is single in
+          let rn = runs x code s ls wt g world st t may.started may.next.runs i is single in
           let h = world.slots (In (RegisterOf t kr)) in
           let eh : o ≡ h.reference = eo ∙ reads r in
           let f1 = place world.slots (In (RegisterOf t kr)) none in
           let fs = place f1 (In (LogOf t k)) h in
-          let lt_r = inside x code s ls wt g world st t on go i is single r isr in
+          let lt_r = inside x code s ls wt g world st t may.started may.next.runs i is single r isr in
           let regs : put R t (register_of code m') ≡ put2 R t kr 0 = ap (put R t) (fun_ext (refs_set code m m' kr 0 rest rest refl lt_r)) in
           let logs : put L t (logged m') ≡ put2 L t k h.reference = ap (put L t) (fun_ext (put_all (λ n y. logged m' n ≡ y) (logged m) k h.reference (ap reference_of (append_same held entry free_word) ∙ eh) (λ n ne. ap reference_of (append_other held entry n ne)))) in
           let sim1 = reg_stored x s st.cells st.elements (conc_of code g) world st.sim st.apart t kr none in
@@ -175,7 +171,7 @@ module _ (x : Targets) (code : Code) (s : Shape) (ls : Labels) (wt : IsWellTyped
           (λ u. place_other f1 (In (LogOf t k)) (In (ArgumentOf u)) h (λ e. cc) ∙ place_other world.slots (In (RegisterOf t kr)) (In (ArgumentOf u)) none (λ e. cc))
           (λ p q. place_other f1 (In (LogOf t k)) (CellOf p q) h (λ e. cc) ∙ place_other world.slots (In (RegisterOf t kr)) (CellOf p q) none (λ e. cc))
           (lock_ok (size_of_run code s) (lang_of x) (shift world (RegisterOf t kr) (LogOf t k))
-          (shift_ok (size_of_run code s) (lang_of x) world st.inv (RegisterOf t kr) (LogOf t k) (λ e. cc) (inside_world x code s ls wt g world st t on go i is single r isr) (low_t, low_k)
+          (shift_ok (size_of_run code s) (lang_of x) world st.inv (RegisterOf t kr) (LogOf t k) (λ e. cc) (inside_world x code s ls wt g world st t may.started may.next.runs i is single r isr) (low_t, low_k)
           (st.sim.logs t k ∙ ap reference_of free_word) (λ _ _. refl) (free_shut world t kr shut) (λ u q us e. cc)) t o j zero_now)
           (subst (λ r. Shows x s st.cells st.elements (record (conc_of code g) { regs = r; logs = put L t (logged m') }) (with_slots fs)) (sym regs)
           (subst (λ l. Shows x s st.cells st.elements (record (conc_of code g) { regs = put2 R t kr 0; logs = l }) (with_slots fs)) (sym logs) sim2))
@@ -205,13 +201,11 @@ module _ (x : Targets) (code : Code) (s : Shape) (ls : Labels) (wt : IsWellTyped
       unlock_global : (o ≡ 0) → (r : ℕ) → after ≡ made_turn g tr.thread (slice_set g.words k 0) (moved (slice_set (g.threads tr.thread).refs (base + r) o) left) → IsVacant code here r
           → Leads ls ((g.threads tr.thread).at.pc + 1) (record here { gate = Closed; room = true }) → Turned x code s ls g world tr
       unlock_global oz r done vacant leads =
-          let on = may.started in
-          let go = may.next.runs in
           let kr = base + r in
           let rs = slice_set m.refs kr o in
           let m' = moved rs left in
-          let rn = runs x code s ls wt g world st t on go i is single in
-          let lt_r = inside x code s ls wt g world st t on go i is single r vacant.is in
+          let rn = runs x code s ls wt g world st t may.started may.next.runs i is single in
+          let lt_r = inside x code s ls wt g world st t may.started may.next.runs i is single r vacant.is in
           let empty_r : in_ref world (RegisterOf t kr) ≡ 0 = subst (EntryStands (refs_at view base) (types_at view base) r) vacant.empty ((tops (suc r) 0).env r (omega arith)) in
           let was : o ≡ register_of code m kr = oz ∙ sym empty_r ∙ st.sim.regs t kr in
           let regs : put R t (register_of code m') ≡ R = fun_ext (put_self R t (register_of code m') (fun_ext (λ n. refs_set code m m' kr o rest rest refl lt_r n ∙ put_self (register_of code m) kr o was n))) in
@@ -232,13 +226,11 @@ module _ (x : Targets) (code : Code) (s : Shape) (ls : Labels) (wt : IsWellTyped
       unlock_object : (b : ℕ) → (o ≡ ref (g.threads tr.thread) b) → here.known b ≡ true → (r : ℕ) → after ≡ made_turn g tr.thread (slice_set g.words k 0) (moved (slice_set (g.threads tr.thread).refs (base + r) o) left) → IsVacant code here r
           → Leads ls ((g.threads tr.thread).at.pc + 1) (record (fill here r (here.env b) (here.same b) true) { room = true }) → Turned x code s ls g world tr
       unlock_object b eo kn r done vacant leads =
-          let on = may.started in
-          let go = may.next.runs in
           let kr = base + r in
           let rs = slice_set m.refs kr o in
           let m' = moved rs left in
-          let rn = runs x code s ls wt g world st t on go i is single in
-          let lt_r = inside x code s ls wt g world st t on go i is single r vacant.is in
+          let rn = runs x code s ls wt g world st t may.started may.next.runs i is single in
+          let lt_r = inside x code s ls wt g world st t may.started may.next.runs i is single r vacant.is in
           let refs = refs_at view base in
           let empty_r : in_ref world (RegisterOf t kr) ≡ 0 = subst (EntryStands refs (types_at view base) r) vacant.empty ((tops (suc r) 0).env r (omega arith)) in
           let h = world.slots (In (LogOf t k)) in
@@ -271,7 +263,7 @@ module _ (x : Targets) (code : Code) (s : Shape) (ls : Labels) (wt : IsWellTyped
           (λ u. place_other f1 (In (RegisterOf t kr)) (In (ArgumentOf u)) h (λ e. cc) ∙ place_other world.slots (In (LogOf t k)) (In (ArgumentOf u)) none (λ e. cc))
           (λ p q. place_other f1 (In (RegisterOf t kr)) (CellOf p q) h (λ e. cc) ∙ place_other world.slots (In (LogOf t k)) (CellOf p q) none (λ e. cc))
           (unlock_ok (size_of_run code s) (lang_of x) (shift world (LogOf t k) (RegisterOf t kr))
-          (shift_ok (size_of_run code s) (lang_of x) world st.inv (LogOf t k) (RegisterOf t kr) (λ e. cc) (low_t, low_k) (inside_world x code s ls wt g world st t on go i is single r vacant.is)
+          (shift_ok (size_of_run code s) (lang_of x) world st.inv (LogOf t k) (RegisterOf t kr) (λ e. cc) (low_t, low_k) (inside_world x code s ls wt g world st t may.started may.next.runs i is single r vacant.is)
           empty_r (λ _ _. refl) (λ u q us e. cc) (free_shut world t kr shut)) t o j is_mine shut)
           (subst (λ r. Shows x s st.cells st.elements (record (conc_of code g) { regs = r; logs = put L t (logged m') }) (with_slots fs)) (sym regs)
           (subst (λ l. Shows x s st.cells st.elements (record (conc_of code g) { regs = put2 R t kr h.reference; logs = l }) (with_slots fs)) (sym logs) sim2))
@@ -304,13 +296,11 @@ module _ (x : Targets) (code : Code) (s : Shape) (ls : Labels) (wt : IsWellTyped
   pub Lock_keeps : (c : Cell) (site : ℕ) → instr_at code (g.threads tr.thread).at.pc ≡ Instr.Lock c site → Turned x code s ls g world tr
   Lock_keeps c site is =
       let i = Instr.Lock c site in
-      let on = may.started in
-      let go = may.next.runs in
-      let f = fine x code s ls wt g world st who on go i is refl in
-      let rn = runs x code s ls wt g world st who on go i is refl in
-      let shut = is_shut x code s ls wt g world st who on go i is refl f.0 in
-      let low = st.begins.few who on in
-      let th = cell_there x code s ls wt fits g world st who mm rn.names now (top x code s ls wt g world st who on go i is refl) (resting x code s ls wt g world st who (on, go) i is refl).reads c f.2.0 f.2.1 in
+      let f = fine x code s ls wt g world st who may.started may.next.runs i is refl in
+      let rn = runs x code s ls wt g world st who may.started may.next.runs i is refl in
+      let shut = is_shut x code s ls wt g world st who may.started may.next.runs i is refl f.0 in
+      let low = st.begins.few who may.started in
+      let th = cell_there x code s ls wt fits g world st who mm rn.names now (top x code s ls wt g world st who may.started may.next.runs i is refl) (resting x code s ls wt g world st who (may.started, may.next.runs) i is refl).reads c f.2.0 f.2.1 in
       let o = object_of_cell mm c in
       let j = number_in mm c in
       let k = cell_at s o j in
@@ -342,13 +332,11 @@ module _ (x : Targets) (code : Code) (s : Shape) (ls : Labels) (wt : IsWellTyped
   pub Unlock_keeps : (r : ℕ) (c : Cell) (site : ℕ) → instr_at code (g.threads tr.thread).at.pc ≡ Instr.Unlock r c site → Turned x code s ls g world tr
   Unlock_keeps r c site is =
       let i = Instr.Unlock r c site in
-      let on = may.started in
-      let go = may.next.runs in
-      let f = fine x code s ls wt g world st who on go i is refl in
-      let rn = runs x code s ls wt g world st who on go i is refl in
-      let q : GateStands s world who mm (Holds c) = subst (GateStands s world who mm) f.0 (gate x code s ls wt g world st who on go i is refl) in
-      let low = st.begins.few who on in
-      let th = cell_there x code s ls wt fits g world st who mm rn.names now (top x code s ls wt g world st who on go i is refl) (resting x code s ls wt g world st who (on, go) i is refl).reads c f.2.0 f.2.1 in
+      let f = fine x code s ls wt g world st who may.started may.next.runs i is refl in
+      let rn = runs x code s ls wt g world st who may.started may.next.runs i is refl in
+      let q : GateStands s world who mm (Holds c) = subst (GateStands s world who mm) f.0 (gate x code s ls wt g world st who may.started may.next.runs i is refl) in
+      let low = st.begins.few who may.started in
+      let th = cell_there x code s ls wt fits g world st who mm rn.names now (top x code s ls wt g world st who may.started may.next.runs i is refl) (resting x code s ls wt g world st who (may.started, may.next.runs) i is refl).reads c f.2.0 f.2.1 in
       let o = object_of_cell mm c in
       let j = number_in mm c in
       let k = cell_at s o j in

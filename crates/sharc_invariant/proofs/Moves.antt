@@ -70,15 +70,13 @@ module _ (x : Targets) (code : Code) (s : Shape) (ls : Labels) (wt : IsWellTyped
 
   pub moved_state : after ≡ made_turn g tr.thread g.words m2 → Turned x code s ls g world tr
   moved_state done =
-      let on = may.started in
-      let go = may.next.runs in
-      let rest = rests x code s ls wt g world st t on go i is single in
-      let rn = runs x code s ls wt g world st t on go i is single in
-      let shut = is_shut x code s ls wt g world st t on go i is single gt in
-      let lt_f = inside x code s ls wt g world st t on go i is single from isf in
-      let lt_r = inside x code s ls wt g world st t on go i is single r vacant.is in
+      let rest = rests x code s ls wt g world st t may.started may.next.runs i is single in
+      let rn = runs x code s ls wt g world st t may.started may.next.runs i is single in
+      let shut = is_shut x code s ls wt g world st t may.started may.next.runs i is single gt in
+      let lt_f = inside x code s ls wt g world st t may.started may.next.runs i is single from isf in
+      let lt_r = inside x code s ls wt g world st t may.started may.next.runs i is single r vacant.is in
       let lt_r1 : kr < length m1.refs = subst (λ n. kr < n) (sym (length-set m.refs kf 0)) lt_r in
-      let own : KeepsOwn m m2 = keeps_own x code s ls wt g world st t on go i is single m2 refl (length-set m1.refs kr (ref m from) ∙ length-set m.refs kf 0) refl refl (not_begun x code s ls wt g world st t on go i is single (m.at.pc + 1) leads.function) refl in
+      let own : KeepsOwn m m2 = keeps_own x code s ls wt g world st t may.started may.next.runs i is single m2 refl (length-set m1.refs kr (ref m from) ∙ length-set m.refs kf 0) refl refl (not_begun x code s ls wt g world st t may.started may.next.runs i is single (m.at.pc + 1) leads.function) refl in
       let R : ℕ → ℕ → ℕ = λ u. register_of code (g.threads u) in
       let a1 : register_of code m1 ≡ put (R t) kf 0 = fun_ext (refs_set code m m1 kf 0 rest rest refl lt_f) in
       let a2 : register_of code m2 ≡ put (put (R t) kf 0) kr h.reference = fun_ext (refs_set code m1 m2 kr (ref m from) rest rest refl lt_r1) ∙ ap (λ f. put f kr (ref m from)) a1 ∙ ap (put (put (R t) kf 0) kr) reads in
@@ -96,7 +94,7 @@ module _ (x : Targets) (code : Code) (s : Shape) (ls : Labels) (wt : IsWellTyped
       let below2 = below_filled x code ls t (filled view kf 0 nothing) m m2 r h.reference h.ty refl refl refl refl here.function below1 in
       let few = room_of code s g tr may g.words m2 done in (
         w2,
-        subst (λ y. State x code s ls y w2) (sym done) (quiet_state x code s ls g world st t on g.words m2 own (same_words x code s ls g world st) w2
+        subst (λ y. State x code s ls y w2) (sym done) (quiet_state x code s ls g world st t may.started g.words m2 own (same_words x code s ls g world st) w2
             (record { obj = refl; mutex = refl; args = λ u. away (In (ArgumentOf u)) (λ e. cc) (λ e. cc) })
             (record {
               regs = λ u ne q. away (In (RegisterOf u q)) (λ e. ne (cc)) (λ e. ne (cc));
@@ -108,9 +106,9 @@ module _ (x : Targets) (code : Code) (s : Shape) (ls : Labels) (wt : IsWellTyped
               within = λ u _ b e j n. refl;
             })
             wt (shift_ok (size_of_run code s) (lang_of x) world st.inv (RegisterOf t kf) (RegisterOf t kr) (λ e. apart (let q : kr ≡ kf = cc in omega arith))
-            (inside_world x code s ls wt g world st t on go i is single from isf) (inside_world x code s ls wt g world st t on go i is single r vacant.is) empty_r (λ _ _. refl) (free_shut world t kf shut) (free_shut world t kr shut))
+            (inside_world x code s ls wt g world st t may.started may.next.runs i is single from isf) (inside_world x code s ls wt g world st t may.started may.next.runs i is single r vacant.is) empty_r (λ _ _. refl) (free_shut world t kf shut) (free_shut world t kr shut))
             sim4
-            (λ _. next_runs x code s ls wt g world st t on go i is single w2 (heap_now st.heap g.words) (made_turn g t g.words m2) m2 names k' rest refl refl leads
+            (λ _. next_runs x code s ls wt g world st t may.started may.next.runs i is single w2 (heap_now st.heap g.words) (made_turn g t g.words m2) m2 names k' rest refl refl leads
             (subst (λ v. TopStands x t v base m.at.ints names k') (sym v) moved_top)
             (subst (λ v. FramesStand x code ls t v m2 here.function) (sym v) below2)
             shut rn.room)

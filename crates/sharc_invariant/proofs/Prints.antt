@@ -8,13 +8,11 @@ module _ (x : Targets) (code : Code) (s : Shape) (ls : Labels) (wt : IsWellTyped
   pub Print_keeps : (r site : ℕ) → instr_at code (g.threads tr.thread).at.pc ≡ Instr.Print r site → Turned x code s ls g world tr
   Print_keeps r site is =
       let i = Instr.Print r site in
-      let on = may.started in
-      let go = may.next.runs in
-      let f = fine x code s ls wt g world st t on go i is refl in
-      let rn = runs x code s ls wt g world st t on go i is refl in
-      let tp = top x code s ls wt g world st t on go i is refl in
-      let rest = rests x code s ls wt g world st t on go i is refl in
-      let shut = is_shut x code s ls wt g world st t on go i is refl f.0 in
+      let f = fine x code s ls wt g world st t may.started may.next.runs i is refl in
+      let rn = runs x code s ls wt g world st t may.started may.next.runs i is refl in
+      let tp = top x code s ls wt g world st t may.started may.next.runs i is refl in
+      let rest = rests x code s ls wt g world st t may.started may.next.runs i is refl in
+      let shut = is_shut x code s ls wt g world st t may.started may.next.runs i is refl f.0 in
       let found = slice_index g.words 3 in
       let v = (found + 1) % 2 ^ 64 in
       let m' = printed m (int m r) found in
@@ -32,7 +30,7 @@ module _ (x : Targets) (code : Code) (s : Shape) (ls : Labels) (wt : IsWellTyped
         epochs = λ i l. ap epoch_of (at (97 + i) ∙ put_other (λ i. slice_index g.words i) 3 (97 + i) v (λ e. absurd (omega arith)));
         kept = subst (λ h. Kept (record { first = 1 + s.globals; words = first_cell s }) (record st.heap { words = h })) fe kept0;
       } in
-      let own : KeepsOwn m m' = keeps_own x code s ls wt g world st t on go i is refl m' refl refl refl refl (not_begun x code s ls wt g world st t on go i is refl (m.at.pc + 1) f.1.function) refl in
+      let own : KeepsOwn m m' = keeps_own x code s ls wt g world st t may.started may.next.runs i is refl m' refl refl refl refl (not_begun x code s ls wt g world st t may.started may.next.runs i is refl (m.at.pc + 1) f.1.function) refl in
       let regs : put (λ u. register_of code (g.threads u)) t (register_of code m') ≡ (λ u. register_of code (g.threads u)) =
       fun_ext (put_self (λ u. register_of code (g.threads u)) t (register_of code m') (fun_ext (λ n. register_plain code m' rest n ∙ sym (register_plain code m rest n)))) in
       let sim1 = low_stored x s st.cells st.elements (conc_of code g) world 3 v (omega arith) st.apart st.sim in
@@ -40,8 +38,8 @@ module _ (x : Targets) (code : Code) (s : Shape) (ls : Labels) (wt : IsWellTyped
       subst (λ r. Shows x s st.cells st.elements (record (conc_of code g) { words = λ j. slice_index words j; regs = r }) world) (sym regs)
       (subst (λ h. Shows x s st.cells st.elements (record (conc_of code g) { words = h }) world) (sym (fun_ext at)) sim1) in
       let sim3 = subst (λ c. Shows x s st.cells st.elements c world) (sym (conc_plain code g t words m' (noted_same m m' refl rest rest own.ended_before own.ended))) sim2 in
-      unseen x code s ls g world tr _ done (quiet_state x code s ls g world st t on words m' own kw world (record { obj = refl; mutex = refl; args = λ u. refl })
+      unseen x code s ls g world tr _ done (quiet_state x code s ls g world st t may.started words m' own kw world (record { obj = refl; mutex = refl; args = λ u. refl })
       (others_stay s world st.heap g.words words t (λ u _ b e j n. at j ∙ put_other (λ i. slice_index g.words i) 3 j v (λ q. let lo = n.0 in absurd (omega arith))))
       wt st.inv sim3
-      (λ _. next_runs x code s ls wt g world st t on go i is refl world (heap_now st.heap words) (made_turn g t words m') m' rn.names here rest refl f.0 f.1 tp (frames_same x code ls t view m m' refl refl refl refl here.function rn.below) shut rn.room)
+      (λ _. next_runs x code s ls wt g world st t may.started may.next.runs i is refl world (heap_now st.heap words) (made_turn g t words m') m' rn.names here rest refl f.0 f.1 tp (frames_same x code ls t view m m' refl refl refl refl here.function rn.below) shut rn.room)
       (λ q. absurd (cc)) (room_of code s g tr may words m' done))

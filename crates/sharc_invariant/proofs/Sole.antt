@@ -12,13 +12,11 @@ module _ (x : Targets) (code : Code) (s : Shape) (ls : Labels) (wt : IsWellTyped
   pub Test_sole_keeps : (r site : ℕ) → instr_at code (g.threads tr.thread).at.pc ≡ Instr.TestSole r site → Turned x code s ls g world tr
   Test_sole_keeps r site is =
       let i = Instr.TestSole r site in
-      let on = may.started in
-      let go = may.next.runs in
-      let f = fine x code s ls wt g world st t on go i is refl in
-      let rn = runs x code s ls wt g world st t on go i is refl in
-      let tp = top x code s ls wt g world st t on go i is refl in
-      let shut = is_shut x code s ls wt g world st t on go i is refl f.0 in
-      let reads : ref m r ≡ in_ref world (RegisterOf t (base + r)) = sym (st.sim.regs t (base + r) ∙ register_plain code m (rests x code s ls wt g world st t on go i is refl) (base + r)) in
+      let f = fine x code s ls wt g world st t may.started may.next.runs i is refl in
+      let rn = runs x code s ls wt g world st t may.started may.next.runs i is refl in
+      let tp = top x code s ls wt g world st t may.started may.next.runs i is refl in
+      let shut = is_shut x code s ls wt g world st t may.started may.next.runs i is refl f.0 in
+      let reads : ref m r ≡ in_ref world (RegisterOf t (base + r)) = sym (st.sim.regs t (base + r) ∙ register_plain code m (rests x code s ls wt g world st t may.started may.next.runs i is refl) (base + r)) in
       let nz : in_ref world (RegisterOf t (base + r)) ≢ 0 = (tp (suc r) 0).known r (omega arith) f.2 in
       let nzm : ref m r ≢ 0 = λ z. nz (sym reads ∙ z) in
       let fit = st.inv.words.fits (In (RegisterOf t (base + r))) nz in
@@ -47,19 +45,17 @@ module _ (x : Targets) (code : Code) (s : Shape) (ls : Labels) (wt : IsWellTyped
             (sole_gate r new f.3.gate)
         | false ↦ λ b e.
             let why = NotSole site found in
-            unseen x code s ls g world tr _ e (stop_state x code s ls wt g world st t on go i is refl why shut (room_of code s g tr may g.words (stopped m why) e))
+            unseen x code s ls g world tr _ e (stop_state x code s ls wt g world st t may.started may.next.runs i is refl why shut (room_of code s g tr may g.words (stopped m why) e))
       ] refl (loaded_words x code s ls wt fits g world st tr may i is refl k (tested m site found) done0.0)
 
   -- a register that held NULL holds it on
   pub Null_keeps : (r : ℕ) → instr_at code (g.threads tr.thread).at.pc ≡ Instr.Null r → Turned x code s ls g world tr
   Null_keeps r is =
       let i = Instr.Null r in
-      let on = may.started in
-      let go = may.next.runs in
-      let f = fine x code s ls wt g world st t on go i is refl in
-      let rn = runs x code s ls wt g world st t on go i is refl in
-      let tp = top x code s ls wt g world st t on go i is refl in
-      let shut = is_shut x code s ls wt g world st t on go i is refl f.0 in
+      let f = fine x code s ls wt g world st t may.started may.next.runs i is refl in
+      let rn = runs x code s ls wt g world st t may.started may.next.runs i is refl in
+      let tp = top x code s ls wt g world st t may.started may.next.runs i is refl in
+      let shut = is_shut x code s ls wt g world st t may.started may.next.runs i is refl f.0 in
       let k = base + r in
       let empty_r : in_ref world (RegisterOf t k) ≡ 0 = subst (EntryStands (refs_at view base) (types_at view base) r) f.1.empty ((tp (suc r) 0).env r (omega arith)) in
       let ty = (world.slots (In (RegisterOf t k))).ty in
@@ -68,9 +64,9 @@ module _ (x : Targets) (code : Code) (s : Shape) (ls : Labels) (wt : IsWellTyped
       let done = local_turn code s g tr may m' (ap (λ i. Rattle.sharc_code.specs.Machine.act code s i m) is) in
       let same : filled view k 0 ty ≡ view = let a = fun_ext (put_self view.refs k 0 (sym empty_r)) in let b = fun_ext (put_self view.types k ty refl) in λ i. record view { refs = a i; types = b i } in (
         w',
-        subst (λ y. State x code s ls y w') (sym done) (filled_state x code s ls wt g world st t on go i is refl r (null ty) m' w' g.words here
+        subst (λ y. State x code s ls y w') (sym done) (filled_state x code s ls wt g world st t may.started may.next.runs i is refl r (null ty) m' w' g.words here
             (record { at = refl; refs = refl; ints = refl; frames = refl; own = refl }) f.1.is refl refl refl refl (λ u _. refl) shut (same_words x code s ls g world st) (λ u b j _ _. refl)
-            (set_slot_ok (size_of_run code s) (lang_of x) world st.inv (RegisterOf t k) ty (inside_world x code s ls wt g world st t on go i is refl r f.1.is) empty_r (free_shut world t k shut))
+            (set_slot_ok (size_of_run code s) (lang_of x) world st.inv (RegisterOf t k) ty (inside_world x code s ls wt g world st t may.started may.next.runs i is refl r f.1.is) empty_r (free_shut world t k shut))
             (reg_stored x s st.cells st.elements (conc_of code g) world st.sim st.apart t k (null ty))
             (subst (λ v. TopStands x t v base m.at.ints rn.names here) (sym same) tp) f.2 refl f.0 rn.room (room_of code s g tr may g.words m' done)),
         Silently (filled_silent x code s ls wt few g world st tr may w' k (null ty) refl refl refl refl (λ u _. refl) (λ q e. let z : Shut ≡ Sole q = sym shut ∙ e in cc)),

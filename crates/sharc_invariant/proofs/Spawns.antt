@@ -204,7 +204,7 @@ sum_most (suc n) f c h = let a = sum_most n f c h in let b = h n in let e : suc 
 
 module _ (x : Targets) (code : Code) (s : Shape) (ls : Labels) (wt : IsWellTyped x code ls) (fits : Fits code s) (few : IsSmall code s) (g : Global Machine) (world : World) (st : State x code s ls g world) (tr : Turn)
     (may : MayTurn bounds (one_thread code s) g tr) (r f : ℕ) (from : Register) (site : ℕ) (is : instr_at code (g.threads tr.thread).at.pc ≡ Instr.Spawn r f from site) where
-  open turn_at st tr use {m as mm, after as done_at}
+  open turn_at st tr use {t, m as mm, after as done_at}
   open turn_stands st tr may use {low_t as on_t}
 
   abbrev next_number : ℕ
@@ -225,7 +225,6 @@ module _ (x : Targets) (code : Code) (s : Shape) (ls : Labels) (wt : IsWellTyped
   -- a number is given out
   numbers : (rest : (g.threads tr.thread).own.stage ≡ Rests) → done_at ≡ made_turn g tr.thread (slice_set g.words next_thread_word ((next_number + 1) % 2 ^ 64)) (numbered (g.threads tr.thread) site next_number) → next_thread_word < length g.words → Turned x code s ls g world tr
   numbers rest done long =
-      let t = tr.thread in
       let n = next_number in
       let v = (n + 1) % 2 ^ 64 in
       let words = slice_set g.words next_thread_word v in
@@ -268,7 +267,6 @@ module _ (x : Targets) (code : Code) (s : Shape) (ls : Labels) (wt : IsWellTyped
     -- the function is written
     names : (stage : (g.threads tr.thread).own.stage ≡ Names n) → done_at ≡ made_turn g tr.thread (slice_set g.words (function_word n) f) (at_stage (g.threads tr.thread) (Hands n)) → function_word n < length g.words → Turned x code s ls g world tr
     names stage done long =
-        let t = tr.thread in
         let k = function_word n in
         let words = slice_set g.words k f in
         let lt = reserves.few in
@@ -297,7 +295,6 @@ module _ (x : Targets) (code : Code) (s : Shape) (ls : Labels) (wt : IsWellTyped
     hands : (v : ℕ) → v < 2 ^ 64 → v ≡ argument (g.threads tr.thread) from → (stage : (g.threads tr.thread).own.stage ≡ Hands n) → slice_index g.words (function_word n) ≡ f
         → done_at ≡ made_turn g tr.thread (slice_set g.words (argument_word n) v) (at_stage (g.threads tr.thread) (Begins n)) → argument_word n < length g.words → Turned x code s ls g world tr
     hands v small is_v stage named done long =
-        let t = tr.thread in
         let k = argument_word n in
         let words = slice_set g.words k v in
         let lt = reserves.few in
@@ -368,6 +365,8 @@ module _ (x : Targets) (code : Code) (s : Shape) (ls : Labels) (wt : IsWellTyped
     (may : MayTurn bounds (one_thread code s) g tr) (r f : ℕ) (from : Register) (site : ℕ) (is : instr_at code (g.threads tr.thread).at.pc ≡ Instr.Spawn r f from site)
     (n : ℕ) (stage : (g.threads tr.thread).own.stage ≡ Begins n) (reserves : Reserves g.words tr.thread n) (named : slice_index g.words (function_word n) ≡ f) (long : state_word n < length g.words)
     (refs : List ℕ) (lr : length refs ≡ length (g.threads tr.thread).refs) where
+  open turn_at st tr use {t, m}
+
   abbrev last : Machine
   last = record (g.threads tr.thread) {
     at = record (g.threads tr.thread).at { pc = (g.threads tr.thread).at.pc + 1; state = RunsOn };
@@ -546,8 +545,6 @@ module _ (x : Targets) (code : Code) (s : Shape) (ls : Labels) (wt : IsWellTyped
 
   conc_last : conc_of code then_ ≡ record (store (conc_of code g) (state_word n) 1) { regs = regs_last; args = argument_of code then_ }
   conc_last =
-      let t = tr.thread in
-      let m = g.threads tr.thread in
       let wd : (λ j. slice_index begun_words j) ≡ put (λ i. slice_index g.words i) (state_word n) 1 = fun_ext word_at in
       conc_turned code g t begun_words last refl (sym (spawning_calm m.own.stage sp).staged)
       (calm_notes m last refl (spawning_calm m.own.stage sp).withdrawn (λ order ended p. refl) (ended_before x code s ls wt fits g world st tr may r f from site is sp) refl)
@@ -560,8 +557,6 @@ module _ (x : Targets) (code : Code) (s : Shape) (ls : Labels) (wt : IsWellTyped
       → (names : ℕ → ℤ) (k : Label) → k.gate ≡ Closed → k.room ≡ (ls.at (g.threads tr.thread).at.pc).room → Leads ls ((g.threads tr.thread).at.pc + 1) k → TopStands x tr.thread (view_of st.elements w' tr.thread last) (g.threads tr.thread).at.refs (g.threads tr.thread).at.ints names k
       → FramesStand x code ls tr.thread (view_of st.elements w' tr.thread last) last k.function → g.made tr.thread + 1 ≤ 100000000 → State x code s ls then_ w'
   last_state w' eo em ew ks others entry number inv sim names k kg kr leads tops below room =
-      let t = tr.thread in
-      let m = g.threads tr.thread in
       let new = (ls.at (m.at.pc + 1)).gate in
       let still : w'.win t ≡ Shut = ap (λ (f : ℕ → Window). f t) ew ∙ shut x code s ls wt fits g world st tr may r f from site is sp in
       let rn' = (st.threads tr.thread).runs may.started may.next.runs in
@@ -612,13 +607,11 @@ below_set x code ls t v m m' r vals same = frames_agree x code ls t v (record v 
 
 module _ (x : Targets) (code : Code) (s : Shape) (ls : Labels) (wt : IsWellTyped x code ls) (fits : Fits code s) (few : IsSmall code s) (g : Global Machine) (world : World) (st : State x code s ls g world) (tr : Turn)
     (may : MayTurn bounds (one_thread code s) g tr) (r f i : ℕ) (site : ℕ) (is : instr_at code (g.threads tr.thread).at.pc ≡ Instr.Spawn r f (Register.Int i) site) where
+  open turn_at st tr use {t, m, here, view as v}
+
   int_last : LastTurn x code s ls wt fits few g world st tr may r f (Register.Int i) site is
   int_last n stage reserves named is_arg done long =
-      let t = tr.thread in
-      let m = g.threads tr.thread in
-      let here = ls.at m.at.pc in
       let spn : is_spawning m.own.stage ≡ true = ap is_spawning stage in
-      let v = view_of st.elements world t m in
       let rn' = (st.threads tr.thread).runs may.started may.next.runs in
       let fi = fine x code s ls wt fits g world st tr may r f (Register.Int i) site is spn in
       let tp = subst (TopStands x t v m.at.refs m.at.ints rn'.names) (now_here x code s ls wt fits g world st tr may r f (Register.Int i) site is spn) rn'.top in
@@ -672,13 +665,11 @@ shared_type x refs o ty (Refers s) sh h nz = ap (is_private x) (h nz) ∙ sh
 
 module _ (x : Targets) (code : Code) (s : Shape) (ls : Labels) (wt : IsWellTyped x code ls) (fits : Fits code s) (few : IsSmall code s) (g : Global Machine) (world : World) (st : State x code s ls g world) (tr : Turn)
     (may : MayTurn bounds (one_thread code s) g tr) (r f q : ℕ) (site : ℕ) (is : instr_at code (g.threads tr.thread).at.pc ≡ Instr.Spawn r f (Register.Reference q) site) where
+  open turn_at st tr use {t, m, here, view as v}
+
   ref_last : LastTurn x code s ls wt fits few g world st tr may r f (Register.Reference q) site is
   ref_last n stage reserves named is_arg done long =
-      let t = tr.thread in
-      let m = g.threads tr.thread in
-      let here = ls.at m.at.pc in
       let spn : is_spawning m.own.stage ≡ true = ap is_spawning stage in
-      let v = view_of st.elements world t m in
       let rn' = (st.threads tr.thread).runs may.started may.next.runs in
       let fi = fine x code s ls wt fits g world st tr may r f (Register.Reference q) site is spn in
       let still = shut x code s ls wt fits g world st tr may r f (Register.Reference q) site is spn in

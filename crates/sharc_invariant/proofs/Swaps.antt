@@ -196,7 +196,7 @@ module _ (x : Targets) (code : Code) (s : Shape) (ls : Labels) (wt : IsWellTyped
 
 module _ (x : Targets) (code : Code) (s : Shape) (ls : Labels) (wt : IsWellTyped x code ls) (fits : Fits code s) (g : Global Machine) (world : World) (st : State x code s ls g world) (tr : Turn)
     (may : MayTurn bounds (one_thread code s) g tr) where
-  open turn_at st tr use {m as mm, here as l}
+  open turn_at st tr use {t, m as mm, here as l}
 
   -- the type of what a register holds, where its label has one no other than this
   entry_type : (refs : ℕ → ℕ) (types : ℕ → ObjectType) (T : ObjectType) (r : ℕ) (ty : StaticType) (e : Entry) → ((q : ℕ) → refs (l.same q) ≡ refs q) → ((n : ℕ) → T ≡ type_of refs n ty)
@@ -211,7 +211,6 @@ module _ (x : Targets) (code : Code) (s : Shape) (ls : Labels) (wt : IsWellTyped
       let f = fine x code s ls wt g world st tr.thread may.started may.next.runs i is refl in
       let fl = f.1.0 in
       let ty = f.1.1 in
-      let t = tr.thread in
       let base = mm.at.refs in
       let k = base + r in
       let view = view_of st.elements world t mm in
@@ -243,7 +242,6 @@ module _ (x : Targets) (code : Code) (s : Shape) (ls : Labels) (wt : IsWellTyped
       let f = fine x code s ls wt g world st tr.thread may.started may.next.runs i is refl in
       let fl = f.1.0 in
       let ty = f.1.1 in
-      let t = tr.thread in
       let base = mm.at.refs in
       let k = base + r in
       let view = view_of st.elements world t mm in

@@ -16,5 +16,5 @@ returns c = λ x code s ls wt fits few run checked.
       owner = λ before e after a stands is private. (h.allowed before e after stands a is).owner private;
       unwritten = λ before e after a stands is readonly. (h.allowed before e after stands a is).unwritten readonly;
       under_lock = λ before e after a mutex stands is mode. (l.under before e after stands a is) mutex mode;
-      shared = clean_shares (newest code s run) k.clean;
+      shared = clean_shares (newest code s run) k.1.clean;
     }
