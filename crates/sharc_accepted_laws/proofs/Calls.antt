@@ -18,11 +18,8 @@ alone_is m globals b None = refl
 alone_is m globals b (Some f) = refl
 
 module _ (laws : Laws) (c : Context) (code : Code) (alone : ℕ → Bool) (lines : ℕ) (set : IsSet c.program c.globals code alone) (n : ℕ) (g : Function) where
-  abbrev m : Assignment
-  m = c.program
-
-  abbrev r : Resolution
-  r = c.program.typed
+  open c use {program as m}
+  open c.program use {typed as r}
 
   abbrev z : Setting
   z = setting_of c.program c.globals code alone lines

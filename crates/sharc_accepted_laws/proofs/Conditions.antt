@@ -7,11 +7,8 @@ two_types s t zero = s
 two_types s t (suc n) = t
 
 module _ (laws : Laws) (c : Context) (code : Code) (alone : ℕ → Bool) (lines : ℕ) (set : IsSet c.program c.globals code alone) (n : ℕ) (g : Function) (cells : ConditionsTyped (setting_of c.program c.globals code alone lines) c n g) where
-  abbrev m : Assignment
-  m = c.program
-
-  abbrev r : Resolution
-  r = c.program.typed
+  open c use {program as m}
+  open c.program use {typed as r}
 
   abbrev z : Setting
   z = setting_of c.program c.globals code alone lines
