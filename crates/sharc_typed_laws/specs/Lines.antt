@@ -206,7 +206,7 @@ TypedLine x code ls lines dropped type n l k o = StepsBy x code ls l k (body (λ
 
 -- ---- the whole
 -- the functions of flat code with these labels: whose each line is, and how they begin
-pub record FunctionsStand (code : Code) (fl : FlatLabels) (flat : Flat) : Type 0 where
+pub record HasTypedFunctions (code : Code) (fl : FlatLabels) (flat : Flat) : Type 0 where
   -- nothing is known where no line is, so no line leads there
   pub end : fl.lines.at (length flat.lines) ≡ outside
   pub owned : (n : ℕ) → n < length flat.lines → (f : ℕ) × ((fl.lines.at n).function ≡ Some f)
@@ -226,4 +226,4 @@ pub record IsTypedFlat (x : Targets) (code : Code) (dropped : ℕ → Bool) (fl 
   pub globals : AreGlobals x code
   pub lines : (n : ℕ) (o : Op) → slice_get flat.lines n ≡ Some o → TypedLine x code fl.lines (length flat.lines)
       (dropped n) (fl.replaced n) n (fl.lines.at n) (fl.lines.at (n + 1)) o
-  pub functions : FunctionsStand code fl flat
+  pub functions : HasTypedFunctions code fl flat

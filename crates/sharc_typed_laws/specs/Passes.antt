@@ -13,7 +13,7 @@ use Rattle.sharc_invariant.specs.Types.{Targets, AreTargets, StaticType, cells_o
 use Rattle.sharc_invariant.specs.Labels.{Refers, Empty, Nth, Number, Exactly, OfElement, OfGlobal, Pass, IsIn}
 use Rattle.sharc_invariant.specs.Labels.{Label, Labels, without_base}
 use Rattle.sharc_invariant.specs.Typed.{IsPlace, Covers, AreGlobals}
-use Rattle.sharc_typed_laws.specs.{Inside.{FlatLabels, passed_behind}, Lines.{FunctionsStand, TypedLine}}
+use Rattle.sharc_typed_laws.specs.{Inside.{FlatLabels, passed_behind}, Lines.{HasTypedFunctions, TypedLine}}
 
 -- ---- what is remembered before each line
 abbrev pub is_write : Kind → Bool
@@ -133,4 +133,4 @@ pub record IsTypedAnyhow (x : Targets) (code : Code) (fl : FlatLabels) (flat : F
   -- the cells of globals that are accessed are none of granule 0
   pub low : (n : ℕ) (o : Op) (a : Access) (g place : ℕ) → slice_get flat.lines n ≡ Some o → access o ≡ Some a
       → place_of (known flat n) a.cell ≡ Some (in_global g place) → 2 ≤ place
-  pub functions : FunctionsStand code fl flat
+  pub functions : HasTypedFunctions code fl flat
