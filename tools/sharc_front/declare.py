@@ -1,11 +1,8 @@
 """Declarations: types, structs, enums, names and their scopes, initialisers and strings (C11 6.2.1, 6.4.5, 6.7)."""
-
 import re
-
 from pycparser import c_ast as A
-from .classes import Node, unify
-from .ctype import BAD, BOOL, COND, INT, MUTEX, UINT, VOID, Refusal, Type, array
-from .names import in_c
+from .ctype import BAD, BOOL, COND, INT, MUTEX, UINT, VOID, Node, Refusal, Type, array, unify
+from .source import in_c
 from .tree import element, number, variable
 
 # the types that a few words name, without `signed` and `int`, in the order of the alphabet

@@ -2,14 +2,11 @@
 
 Calls stay in the tree, which the language evaluates from left to right. A call before the lines of a later operand, and
 a value that is written more than once, is in a variable."""
-
 import re
 from dataclasses import dataclass
 from functools import reduce
-
 from pycparser import c_ast as A
-from .classes import Node
-from .ctype import BAD, BITS, BOOL, CHAR, INT, LONG, ULONG, VOID, Type, array, promoted, usual
+from .ctype import BAD, BITS, BOOL, CHAR, INT, LONG, ULONG, VOID, Node, Type, array, promoted, usual
 from .declare import Declarations, Symbol, place_of
 from .tree import COMPARED, NOTHING, PLACES, TRUTHS, Expr, address, binary, convert, element, joined, member, number, \
     plus, variable

@@ -2,11 +2,8 @@
 
 Locks are compared by their text in C. A function begins with the locks that all its callers hold; what it locks and
 unlocks from then on is followed through its lines."""
-
 from collections import Counter, namedtuple
-
-from .names import in_c
-from .source import HEADERS
+from .source import HEADERS, in_c
 from .tree import PLACES, Expr
 
 # an access: where, whether it writes, whether a thread other than main may do it, and the locks, as a mark names them

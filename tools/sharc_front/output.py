@@ -1,23 +1,19 @@
 """The whole program as text: declarations, the objects that stand for arrays and for locals with an address, functions,
 and line markers so that each line is where it was in C."""
-
 import re
 from collections import ChainMap
 from itertools import accumulate
 from operator import itemgetter
-
 from pycparser import c_ast as A
-from .classes import named, roots, settle
-from .ctype import CHAR, UNKNOWN, Refusal, Type, array
+from .ctype import CHAR, UNKNOWN, Refusal, Type, array, named, roots, settle
 from .declare import Symbol
-from .names import Names, in_c
 from .places import Places
-from .source import HEADERS, texts
+from .source import HEADERS, in_c, texts
 from .tree import NOTHING, Expr, number
 
 class Front(Places):
-    def __init__(self, source, words):
-        self.source, self.user = source, Names()
+    def __init__(self, source, words, user):
+        self.source, self.user = source, user
         self.arguments_given = [words.file, *words.arguments]
         self.function, self.here = None, (words.file, 1)
         self.scopes = ChainMap()

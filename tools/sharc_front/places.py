@@ -1,12 +1,8 @@
 """Names, places, values and types as text, when it is known how the pointers of each class are represented."""
-
 import re
 from functools import reduce
-
-from .classes import HEAP
-from .ctype import CELL
-from .names import packed
-from .threads import Threads
+from .ctype import CELL, HEAP
+from .library import Library
 from .tree import LEVELS, number, plus, times, variable
 
 # the words that the language has and C has not
@@ -20,7 +16,7 @@ class Spot:
     def __init__(self, chain=(), index=None, pointer=None, boxes=False):
         self.chain, self.index, self.pointer, self.boxes, self.inner = chain, index, pointer, boxes, ()
 
-class Places(Threads):
+class Places(Library):
     def how(self, node):
         return node.representation(self.here)
 
@@ -122,7 +118,7 @@ class Places(Threads):
             case "variable" | "member" | "element" | "at":
                 made = self.spot_text(self.spot(value))
                 if value.source is not None:
-                    self.user.lvalues[(self.here, packed(made))] = value.source
+                    self.user.lvalues[self.here, self.user.packed(made)] = value.source
             case "number":
                 made = f"{value.number}{'L' * value.wide}"
                 made, tight = made if value.number != -(1 << 63) else f"(-{(1 << 63) - 1}L - 1)", 12 - (made[0] == "-")

@@ -1,15 +1,11 @@
 """Statements and functions, lowered to lines (C11 6.8, 6.9.1)."""
-
 from collections import ChainMap
-
 from pycparser import c_ast as A, c_parser
-from .classes import unify
-from .ctype import BAD, INT, UNKNOWN, VOID, promoted
+from .ctype import BAD, INT, UNKNOWN, VOID, promoted, unify
 from .declare import Symbol, place_of
 from .express import Expressions, Line, uncast
 from .locks import spelled
-from .names import in_c
-from .source import HEADERS
+from .source import HEADERS, in_c
 from .tree import Expr, binary, convert, joined, number, variable
 
 # the parameters of main: how many words there are, and the words

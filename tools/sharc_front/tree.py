@@ -2,10 +2,8 @@
 
 SharC has no unsigned types: an unsigned value of less than 64 bits is masked after what can leave its range; one of 64
 bits is held by its bits, and functions of headers/arithmetic.sharc compare, multiply and divide it."""
-
 import operator
 from dataclasses import dataclass, replace
-
 from .ctype import BITS, CELL, UNSIGNED, VOID, Type, limits
 
 LEVELS = {"||": 1, "&&": 2, "|": 3, "^": 4, "&": 5, "==": 6, "!=": 6, "<": 7, ">": 7, "<=": 7, ">=": 7, "<<": 8,
