@@ -4,6 +4,7 @@ The classes are found by unification over the whole program. A class says how it
 to objects of the heap (of which locals whose address is taken are some), as numbers of elements of one global (1 is
 element 0, 0 is NULL), as numbers of functions, or as the integers that a `void *` carries."""
 import ctypes
+from collections import defaultdict
 from dataclasses import dataclass, field, replace
 
 BITS = {"bool": 1, "char": 8, "uchar": 8, "short": 16, "ushort": 16, "int": 32, "uint": 32, "long": 64, "ulong": 64}
@@ -99,73 +100,65 @@ def unify(one, other):
             unify(*pair)
 
 class Node:
-    """A class, or a part of one that was united with another: `find` gives the whole."""
+    """A class, or a part of one: what was united with another has the attributes of the whole, which `find` gives."""
     def __init__(self, every, to=VOID):
         self.every, self.parent = every, None
         self.globals, self.functions = {}, {}  # as sets in order: (variable, members to a part of it ..), symbols
         self.types, self.seen = {}, set()  # seen: heap, integer, order, taken, or indexed (another element is used)
-        self.parts = {}  # the classes of pointers to other elements ("element"), and to members
+        # the classes of pointers to other elements ("element"), and to members, where something has asked for them
+        self.parts = defaultdict(lambda: Node(every))
         every.append(self)
         self.point_to(to)
+
+    def __getattr__(self, name):
+        return getattr(self.parent and self.find(), name)
 
     def find(self):
         self.parent = self.parent and self.parent.find()
         return self.parent or self
 
-    def part(self, key):
-        root = self.find()
-        if key not in root.parts:
-            root.parts[key] = Node(self.every)
-        return root.parts[key].find()
-
-    def element(self):
-        """The class of pointers to other elements, or None where nothing has asked for it."""
-        return self.part("element") if "element" in self.find().parts else None
-
-    def mark(self, what):
-        self.find().seen.add(what)
-
-    def has(self, what):
-        return what in self.find().seen
-
     def point_to(self, kind):
         """The C type of what is pointed to, as far as it is known; rows of arrays count by their elements."""
         kind = kind.base()
         if kind.kind != "void":
-            unify(self.find().types.setdefault(kind, kind), kind)
+            unify(self.types.setdefault(kind, kind), kind)
 
     def unite(self, other):
         one, other = self.find(), other.find()
         if one is other:
             return
-        other.parent = one
-        one.globals.update(other.globals)
-        one.functions.update(other.functions)
-        one.seen |= other.seen
-        for kind in list(other.types):
+        had, other.__dict__ = other.__dict__, {"parent": one}
+        for name in ("globals", "functions", "seen"):
+            getattr(one, name).update(had[name])
+        for kind in had["types"]:
             one.point_to(kind)
-        for key, node in list(other.parts.items()):
-            one.find().parts.setdefault(key, node).unite(node)
+        for key, node in had["parts"].items():
+            one.parts.setdefault(key, node).unite(node)
 
-    def representation(self, place):
+    @property
+    def how(self):
         """heap, boxes (an array of pointers to its elements), global, function, integer or none; or a refusal."""
-        root = self.find()
-        words = {"heap": root.has("heap") and "an object of the heap or a local",
-                 "global": ", ".join(sorted(map(named, root.globals))),
-                 "function": root.functions and "a function", "integer": root.has("integer") and "a number"}
-        kinds = [kind for kind in words if words[kind]]
-        if len(kinds) > 1 or len(root.globals) > 1:
-            raise Refusal((place, f"pointer to different things: {', '.join(words[kind] for kind in kinds)}"))
-        [how] = kinds or ["heap" if {kind.kind for kind in root.types} - {"func"} else "none"]
-        if how == "heap" and root.element() is root:
-            raise Refusal((place, "pointer arithmetic on an object of the heap or a local"))
-        return "boxes" if how == "heap" and root.element() else how
+        words = {"heap": "heap" in self.seen and "an object of the heap or a local",
+                 "global": ", ".join(sorted(map(named, self.globals))),
+                 "function": self.functions and "a function", "integer": "integer" in self.seen and "a number"}
+        kinds, element = [kind for kind in words if words[kind]], self.parts.get("element")
+        if len(kinds) > 1 or len(self.globals) > 1:
+            raise Refusal((None, f"pointer to different things: {', '.join(words[kind] for kind in kinds)}"))
+        [how] = kinds or ["heap" if {kind.kind for kind in self.types} - {"func"} else "none"]
+        if how == "heap" and element and element.find() is self.find():
+            raise Refusal((None, "pointer arithmetic on an object of the heap or a local"))
+        return "boxes" if how == "heap" and element else how
 
-    def pointee_type(self, place):
-        types = list(self.find().types)
-        if len(types) != 1:
-            raise Refusal((place, f"void * to what is no one type ({', '.join(kind.shown() for kind in types)})"))
-        return types[0]
+    @property
+    def boxes(self):
+        return self.how == "boxes"
+
+    def pointee(self):
+        """The one type of what is pointed to, or a refusal."""
+        if len(self.types) != 1:
+            shown = ", ".join(kind.shown() for kind in self.types)
+            raise Refusal((None, f"void * to what is no one type ({shown})"))
+        return next(iter(self.types))
 
 def named(chain):
     """A variable or a part of it as in C."""
@@ -177,20 +170,19 @@ def roots(nodes):
 def settle(nodes, firsts):
     """Goes on until elements and members of globals are known: element i of a global is in its class."""
     for first, whole in firsts:
-        first.unite(whole.element() or whole)
+        first.unite(whole.parts.get("element", whole))
     before = None
     while before != (now := [(id(root), len(root.globals), len(root.seen)) for root in roots(nodes)]):
         before = now
         for root in map(Node.find, roots(nodes)):
-            element = root.element()
-            if element and (root.globals and not root.has("heap") or element.has("indexed") or element.element()):
+            element, heap = root.parts.get("element"), "heap" in root.seen
+            if element and (root.globals and not heap or "indexed" in element.seen or "element" in element.parts):
                 root.unite(element)
-            elif element and root.has("heap"):
-                element.mark("heap")
-            root = root.find()
+            elif element and heap:
+                element.seen.add("heap")
             for member, node in [part for part in root.parts.items() if part[0] != "element"]:
-                node.find().globals.update({(*chain, member): None for chain in root.globals
-                                            if chain[-1].type.base().struct is member.struct})
-                if root.has("heap") and not root.globals:
+                node.globals.update({(*chain, member): None for chain in root.globals
+                                     if chain[-1].type.base().struct is member.struct})
+                if "heap" in root.seen and not root.globals:
                     member.address.unite(node)
-                    member.apart |= node.has("taken")
+                    member.apart |= "taken" in node.seen

@@ -50,7 +50,8 @@ class Declarations:
 
     def report(self, error, what=None):
         """Notes a refusal, or another error as one with this text."""
-        self.refusals += error.args if isinstance(error, Refusal) else [(self.here, what)]
+        args = error.args if isinstance(error, Refusal) else [(None, what)]
+        self.refusals += [(place or self.here, told) for place, told in args]
 
     def fresh(self, name):
         """A name that nothing has, of at most 60 bytes."""
@@ -163,7 +164,7 @@ class Declarations:
         if kind == "global":
             symbol.address.globals[symbol,] = None
         else:
-            symbol.address.mark("heap")
+            symbol.address.seen.add("heap")
             mutex = kind != "member" and any(chain[-1].type == MUTEX for chain in symbol.leaves())
             symbol.apart = mutex or type.kind == "array"
         return symbol

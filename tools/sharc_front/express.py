@@ -105,7 +105,7 @@ class Expressions(Declarations):
         if made.op == "at":
             self.class_of(made.args[0]).point_to(kind)
             if not made.args[1].null():
-                self.class_of(made.args[0]).mark("indexed")
+                self.class_of(made.args[0]).seen.add("indexed")
         return made if made.type.atomic == kind.atomic else made.with_(type=kind)
 
     def loaded(self, place):
@@ -123,14 +123,14 @@ class Expressions(Declarations):
         if place.op == "variable":
             return base.address
         if place.op == "member":
-            return self.address_class(base).part(*inner)
+            return self.address_class(base).parts[inner[0]]
         whole, first = self.address_class(base) if place.op == "element" else self.class_of(base), inner[0].null()
         if place.type.kind == "array" or first and not taken:
             return whole
-        node = Node(self.nodes) if first else whole.part("element")
+        node = Node(self.nodes) if first else whole.parts["element"]
         self.firsts += [(node, whole)] * first
         if taken:
-            whole.mark("order")
+            whole.seen.add("order")
         return node
 
     def class_of(self, value):
@@ -141,7 +141,7 @@ class Expressions(Declarations):
                 place.chain()[0].apart = True
             node = self.address_class(place, True)
             node.point_to(value.type.to)
-            node.mark("taken")
+            node.seen.add("taken")
             value.type = value.type.with_(node=node)
         return value.type.node
 
@@ -299,7 +299,7 @@ class Expressions(Declarations):
         return base if index.null() else address(self.at(base, index), base.type.to)
 
     def ordered(self, value):
-        self.class_of(value).mark("order")
+        self.class_of(value).seen.add("order")
         return Expr("ordered", (value,), LONG, wide=True)
 
     def x_TernaryOp(self, node, wanted, target=None):
@@ -334,7 +334,7 @@ class Expressions(Declarations):
             return NOTHING
         value = self.value(node.expr)
         if {value.type.kind, kind.kind} == {"ptr", "int"} and kind.name != "bool" and not value.null():
-            (kind.node or self.class_of(value)).mark("integer")
+            (kind.node or self.class_of(value)).seen.add("integer")
             value = value.typed(LONG).with_(wide=True) if kind.node is None else convert(value, "long").typed(kind)
         return self.fitting(value, kind)
 

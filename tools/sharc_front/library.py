@@ -109,18 +109,18 @@ class Library(Statements):
     def allocate(self, place, args):
         node, factors = place.type.node, [factor for arg in args for factor in self.factors(self.value(arg))]
         place = self.stable_place(place)
-        node.mark("heap")
+        node.seen.add("heap")
 
         def allocated():
-            to = place.type.to if place.type.to.kind != "void" else node.pointee_type(self.here)
+            to = place.type.to if place.type.to.kind != "void" else node.pointee()
             length = times(self.count(to, factors), to.cells())
-            return self.new_object(self.text(place), to.base(), length, self.boxes(node))
+            return self.new_object(self.text(place), to.base(), length, node.boxes)
         self.later(allocated, place)
 
     def l_free(self, args):
         value = self.value(args[0])
         value = value if value.op in PLACES or value.null() else self.spilled(value)
-        self.later(lambda: f"free({self.text(value)});" if self.how(self.class_of(value)) in HEAP else "", value)
+        self.later(lambda: f"free({self.text(value)});" if self.class_of(value).how in HEAP else "", value)
 
     def l_sharc_stop(self, args):
         """Stops the thread, by a division by 0 in a file whose name says what it stands for."""
@@ -157,7 +157,7 @@ class Library(Statements):
 
         def lines():
             """Starts one of the functions that `start` may be."""
-            functions = start.type.node.find().functions
+            functions = start.type.node.functions
             texts = [START.substitute(self.records[symbol], own=self.own_name("own"), given=self.own_name("given"),
                                       target=self.text(place), argument=self.text(value)) for symbol in functions]
             return texts[0] if len(texts) == 1 else " ".join(f"if ({self.text(start)} == {self.numbers[symbol]}) {text}"
@@ -176,7 +176,7 @@ class Library(Statements):
         def lines():
             if automatic and not self.handed(value):
                 return ""
-            self.refuse_if(self.how(node) not in HEAP, "SHARC_GIVE of a number")
+            self.refuse_if(node.how not in HEAP, "SHARC_GIVE of a number")
             self.notes.append((self.here, "what the argument of the thread points to is handed over (SCAST)"))
             kind_text, text = self.type_text(kind), self.text(value)
             return f"{kind_text} {name} = SCAST({kind_text}, {text}); {text} = {name};"
@@ -190,8 +190,8 @@ class Library(Statements):
         if not place or place.type.kind == "array" or whole.op != "variable" or whole.args[0].kind == "global":
             return False
         [local] = whole.args
-        alone = self.boxes(local.address) if whole is not place else local.started == [local.loop]
-        return alone and self.how(value.type.node) in HEAP
+        alone = local.address.boxes if whole is not place else local.started == [local.loop]
+        return alone and value.type.node.how in HEAP
 
     def record_lines(self, symbol):
         kinds = [param.type.kind for param in symbol.params] + [symbol.type.to.kind]

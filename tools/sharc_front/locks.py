@@ -81,7 +81,7 @@ class Locksets:
         if prefix is not None and text.startswith(prefix) and not set(text[len(prefix):]) & set(".->"):
             return text[len(prefix):]
         node, name = self.pointers.get(text, (None, None))
-        known = list(node.find().globals) if node else []
+        known = list(node.globals) if node else []
         if len(known) == 1 and len(known[0]) == 1 and known[0][0].type.kind == "struct":
             return f"{known[0][0].name}.{name}"
         return text if not set("[*>(") & set(text) and text.split(".")[0] in self.front.global_names else None

@@ -37,7 +37,7 @@ class Front(Places):
             self.report(Refusal(((words.file, 1), "program without main")))
         if self.refusals:
             raise Refusal(*self.refusals)
-        for symbol in dict.fromkeys(symbol for node in self.started for symbol in node.find().functions):
+        for symbol in dict.fromkeys(symbol for node in self.started for symbol in node.functions):
             names = ("record", "start", "take", "table")  # the struct, what is spawned, what takes the argument, starts
             self.records[symbol] = {name: self.own_name(f"{name}_{symbol.name}") for name in names}
             for node in self.joins if symbol.gives else []:
@@ -71,7 +71,7 @@ class Front(Places):
             name, made, part = self.part_name(*chain), "", chain[-1]
             kind = part.type if part is symbol else part.type.with_(mode=None)
             if symbol.apart or kind.kind == "array":
-                made = " " + self.new_object(name, kind.base(), number(kind.cells()), self.boxes(part.address))
+                made = " " + self.new_object(name, kind.base(), number(kind.cells()), part.address.boxes)
                 kind = Type("ptr", to=kind.base(), node=part.address)
             texts.append(f"{self.type_text(kind)} {name};{made}")
         return " ".join(texts)
@@ -85,7 +85,7 @@ class Front(Places):
         at = self.own_name("i") if not one and (boxes or arrays) else None
         made = self.new_object(f"{own}[{at}]", kind, number(1), False) if boxes else " ".join(
             self.new_object(f"{own}->{name}" if one else f"{own}[{at}].{name}", part.type.base(),
-                            number(part.type.cells()), self.boxes(part.address), " readonly") for name, part in arrays)
+                            number(part.type.cells()), part.address.boxes, " readonly") for name, part in arrays)
         if at:
             made = f"for (int {at} = 0; {at} < {self.text(length, 8)}; {at} = {at} + 1) {{ {made} }}"
         size = ("" if one else f"{self.text(length, 11)} * ") + f"sizeof({plain}{' *' * boxes})"
@@ -107,7 +107,7 @@ class Front(Places):
             if member.apart:
                 mode = member.type.mode or ("racy" if base.kind == "mutex" else "dynamic", None)
                 base = base if base.mode or base.atomic else base.with_(mode=mode)
-                stars = " * readonly" * (1 + self.boxes(member.address))
+                stars = " * readonly" * (1 + member.address.boxes)
             texts.append(f"{self.type_text(base, chain, False)}{stars} {self.part_name(*chain)};")
         return f"struct {self.part_name(struct)} {{ {' '.join(texts)} }};"
 

@@ -17,12 +17,6 @@ class Spot:
         self.chain, self.index, self.pointer, self.boxes, self.inner = chain, index, pointer, boxes, ()
 
 class Places(Library):
-    def how(self, node):
-        return node.representation(self.here)
-
-    def boxes(self, node):
-        return self.how(node) == "boxes"
-
     def part_name(self, owner, *path):
         """The name in the text, none of SharC's words: for a variable or struct, or for a part of it."""
         if (owner, *path) not in self.out_names:
@@ -73,19 +67,19 @@ class Places(Library):
             spot.inner = (*(spot.inner or [symbol.struct]), symbol)
             if apart and not spot.pointer:  # those of all elements are one after the other
                 return Spot((*spot.chain, *spot.inner[1:]), times(spot.index, symbol.type.cells()))
-        return Spot((), number(0), self.spot_text(spot), self.boxes(symbol.address)) if apart else spot
+        return Spot((), number(0), self.spot_text(spot), symbol.address.boxes) if apart else spot
 
     def pointed(self, pointer, index, kind):
         """Where the element `index` of what a pointer points to is."""
         node = self.class_of(pointer)
-        how = self.how(node)
+        how = node.how
         if how in HEAP:
-            node.pointee_type(self.here)
-            return Spot((), times(index, kind.cells()), self.text(pointer), self.boxes(node))
+            node.pointee()  # it is of one type
+            return Spot((), times(index, kind.cells()), self.text(pointer), node.boxes)
         self.refuse_if(how != "global", "use of a pointer that is always NULL or a number")
-        chain = next(iter(node.find().globals))
+        chain = next(iter(node.globals))
         self.reads_strings |= chain[0] is self.strings
-        kinds, moves = [symbol.type for symbol in chain], node.has("order")
+        kinds, moves = [symbol.type for symbol in chain], "order" in node.seen
         self.refuse_if(kinds[-1].base() != kind.base(), f"pointer to {kinds[-1].shown()} used for {kind.shown()}")
         in_array = any(part.kind == "array" for part in kinds)
         single = kinds[-1].kind != "array" and moves if in_array else not index.null() or moves and not pointer.place()
@@ -134,7 +128,7 @@ class Places(Library):
                 made = args[0]()
             case "ordered":
                 made = self.text(args[0])
-                self.refuse_if(self.how(self.class_of(args[0])) != "global", "order of pointers to the heap or locals")
+                self.refuse_if(self.class_of(args[0]).how != "global", "order of pointers to the heap or locals")
             case _ if op in LEVELS:
                 tight = LEVELS[op]
                 made = f"{self.text(args[0], tight)} {op} {self.text(args[1], tight + 1)}"
@@ -144,12 +138,12 @@ class Places(Library):
         return made if tight >= level else f"({made})"
 
     def null_text(self, node):
-        return "NULL" if self.how(node) in HEAP else "0"
+        return "NULL" if node.how in HEAP else "0"
 
     def pointer_text(self, value):
         place = value.args[0]
         is_array = place.type.kind == "array"
-        if self.how(self.class_of(value)) == "global":
+        if self.class_of(value).how == "global":
             return self.text(self.as_number(value), 12)
         spot = self.spot(place)
         self.refuse_if(spot.pointer is None or spot.inner or not spot.boxes and not spot.index.null(),
@@ -184,9 +178,9 @@ class Places(Library):
         if kind.kind == "struct":
             self.refuse_if(not kind.struct.fields, f"struct {kind.name}, which is not defined")
             return "struct " + self.part_name(kind.struct) + mode
-        how = self.how(kind.node)
+        how = kind.node.how
         if how not in HEAP:
             return ("long" if how == "integer" else "int") + mode
-        known = kind.node.pointee_type(self.here)
+        known = kind.node.pointee()
         to = (kind.to if kind.to.kind != "void" else known.with_(mode=kind.to.mode)).base()
         return self.type_text(to, context, False) + " *" * (2 if how == "boxes" else 1) + mode

@@ -16,8 +16,10 @@ FOLDED = {"+": operator.add, "-": operator.sub, "*": operator.mul, "&": operator
           "/": lambda a, b: abs(a) // abs(b) * (1 if (a < 0) == (b < 0) else -1),
           "%": lambda a, b: abs(a) % abs(b) * (1 if a >= 0 else -1)}
 TRUTHS = (*COMPARED, "&&", "||", "!")
-NAMES64 = {"+": "__sharc_sum64", "-": "__sharc_difference64", "*": "__sharc_product64", "/": "__sharc_quotient64",
-           "%": "__sharc_remainder64", "<<": "__sharc_left64", ">>": "__sharc_right64"}
+# the functions of headers/arithmetic.sharc in place of operators
+FUNCTIONS = {("uint", "*"): "__sharc_product32", **{("ulong", op): f"__sharc_{name}64" for op, name in {
+    "+": "sum", "-": "difference", "*": "product", "/": "quotient", "%": "remainder", "<<": "left", ">>": "right",
+    "<": "below", ">": "above", "<=": "most", ">=": "least"}.items()}}
 
 @dataclass(eq=False)
 class Expr:
@@ -115,25 +117,19 @@ def folded(op, left, right, name):
 
 def binary(op, left, right, name):
     """left op right in the C type `name`, to which both operands are converted (the left one alone for shifts)."""
-    below = all(side.number >= 0 if side.number is not None else side.type.name in UNSIGNED - {"ulong"}
+    small = all(side.number >= 0 if side.number is not None else side.type.name in UNSIGNED - {"ulong"}
                 for side in (left, right))  # whether both as an unsigned long are less than 2^63
     left, right = convert(left, name), right if op in ("<<", ">>") else convert(right, name)
     value = folded(op, left, right, name) if None not in (left.number, right.number) else None
-    if value is not None or op in COMPARED:
-        return value or compared(op, left, right, name == "ulong" and not below)
-    small = op in ("+", "-") and right.number is not None and abs(right.number) <= 65536
-    if name == "ulong" and op in NAMES64 and not small or name == "uint" and op == "*":
-        return joined("__sharc_product32" if name == "uint" else NAMES64[op], name, left, right)
+    if value is not None:
+        return value
+    step = op in ("+", "-") and right.number is not None and abs(right.number) <= 65536
+    function = FUNCTIONS.get((name, op)) if not (small if op in COMPARED else step) else None
+    if function or op in COMPARED:
+        return joined(function or op, "int" if op in COMPARED else name, left, right)
     if name != "int" and op not in ("&", "|", "^") and not joined(op, name, left, right).wide:
         left = joined("+", name, left, number(0, "long"))  # of type long in the text
     return convert(joined(op, "long" if name == "uint" and op in ("+", "-", "<<") else name, left, right), name)
-
-def compared(op, left, right, by_bits):
-    """`by_bits`: one of them may be an unsigned long of 2^63 or more."""
-    if op in ("==", "!=") or not by_bits:
-        return joined(op, "int", left, right)
-    less = joined("__sharc_below64", "int", *((right, left) if op in (">", "<=") else (left, right)))
-    return less if op in ("<", ">") else joined("!", "int", less)
 
 def plus(left, right):
     """left + right, for indices."""
@@ -146,6 +142,5 @@ def plus(left, right):
     return left if right.null() else joined("-" if right.number < 0 else "+", "long", left, number(abs(right.number)))
 
 def times(value, by):
-    if by == 1 or value.number is not None:
-        return value if by == 1 else number(value.number * by)
-    return joined("*", "long", value, number(by))
+    made = joined("*", "long", value, number(by)) if value.number is None else number(value.number * by)
+    return value if by == 1 else made
