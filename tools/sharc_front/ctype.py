@@ -33,7 +33,7 @@ class Type:
     name: str = ""
     to: "Type" = None  # what a pointer points to, the element of an array, the result of a function
     length: int = None  # of an array; None where it is not known
-    params: tuple = field(default=None, compare=False)  # of a function; None for `()`
+    params: tuple = field(default=(), compare=False)  # of a function
     mode: tuple = field(default=None, compare=False)  # the mark as it is written in SharC, and the scopes there
     atomic: bool = field(default=False, compare=False)
     const: bool = field(default=False, compare=False)
@@ -96,7 +96,7 @@ def unify(one, other):
         one.node.unite(other.node)
     elif one.kind == other.kind and one.kind in ("func", "array"):
         unify(one.to, other.to)
-        for pair in zip(one.params or (), other.params or ()):
+        for pair in zip(one.params, other.params):
             unify(*pair)
 
 class Node:

@@ -103,12 +103,11 @@ class Declarations:
         return value if value is not None else self.refuse(node, f"`{in_c(node)}`, which is not constant")
 
     def t_FuncDecl(self, node):
-        params, result = node.args.params if node.args else None, self.adjusted(self.type(node.type))
+        params, result = node.args.params if node.args else [], self.adjusted(self.type(node.type))
         if params and isinstance(params[-1], A.EllipsisParam):
             return Type("func", name="...", to=result)
-        kinds = [self.adjusted(self.type(param.type)) for param in params or [] if not isinstance(param, A.ID)]
-        none = [kind.kind for kind in kinds] == ["void"]
-        return Type("func", to=result, params=() if none else None if params is None else tuple(kinds))
+        kinds = [self.adjusted(self.type(param.type)) for param in params if not isinstance(param, A.ID)]
+        return Type("func", to=result, params=() if kinds == [VOID] else tuple(kinds))
 
     def adjusted(self, kind):
         """The type of a parameter or result (C11 6.7.6.3); a struct goes as a pointer to a copy."""

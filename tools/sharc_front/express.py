@@ -17,7 +17,7 @@ SPOKEN = {"Compound": "statement expression", "Case": "case inside another state
 class Line:
     place: tuple
     text: str  # with %s for each part
-    parts: tuple = ()  # trees, types and texts
+    parts: tuple = ()  # trees and types
     declares: bool = False
     blocks: tuple = ()  # the lines of a block, and of what may be executed in its place
 
@@ -53,9 +53,9 @@ class Expressions(Declarations):
     def temporary(self, type, value=None):
         """A variable of the front's own, which may be given a value."""
         type = type.bare()
-        symbol = Symbol("t", "local", type, self.here, Node(self.nodes, type), self.own_name("t"), True)
-        self.emit("%s %s = %s;" if value else "%s %s;", *filter(None, (type, symbol.out, value)), declares=True)
-        return variable(symbol)
+        made = variable(Symbol("t", "local", type, self.here, Node(self.nodes, type), self.own_name("t"), True))
+        self.emit("%s %s = %s;" if value else "%s %s;", *filter(None, (type, made, value)), declares=True)
+        return made
 
     def spilled(self, value):
         """A value in a variable of its own."""
@@ -252,8 +252,7 @@ class Expressions(Declarations):
             made = self.visit(inner)
             return made if made.op == "number" else address(made)  # the number of a function
         if op in ("++", "--", "p++", "p--"):
-            place = self.stable_place(self.visit(inner))
-            return self.changed(place, wanted, A.Constant("int", "1"), op[-1], after=op[0] == "p")
+            return self.assigned(self.visit(inner), op[-1], A.Constant("int", "1"), wanted, after=op[0] == "p")
         value = self.value(inner)
         if op == "*":
             return value if value.type.kind == "ptr" and value.type.to.kind == "func" else self.deref(value)
@@ -339,29 +338,27 @@ class Expressions(Declarations):
         return self.fitting(value, kind)
 
     def x_Assignment(self, node, wanted):
-        place, op = self.visit(node.lvalue), node.op[:-1]
-        place = self.stable_place(place) if op or wanted or place.calls else place
-        if op or place.type.atomic or wanted and place.type.kind != "struct" and not self.allocation(node.rvalue):
-            return self.changed(place, wanted, node.rvalue, op)
-        self.store(place, node.rvalue)
-        return place if wanted else None
+        return self.assigned(self.visit(node.lvalue), node.op[:-1], node.rvalue, wanted)
 
-    def changed(self, place, wanted, by, op, after=False):
+    def assigned(self, place, op, by, wanted, after=False):
         """a = b, a op= b, a++: the value is the old one if `after`. Atomic variables are changed under one mutex."""
+        place = self.stable_place(place) if op or wanted or place.calls else place
+        if not op and not place.type.atomic and (not wanted or place.type.kind == "struct" or self.allocation(by)):
+            self.store(place, by)
+            return place if wanted else None
         by, mutex = self.value(by), self.scopes.maps[-1]["__sharc_atomics"]
         if place.type.atomic:
             by, mutex.uses = self.stable(by), mutex.uses + 1
             self.emit(f"lock(&{mutex.out});")
-        kept, old = None, op and self.loaded(place.with_(type=place.type.with_(atomic=False)))
-        if wanted and after:
-            kept = old = self.spilled(old)
+        old = op and self.loaded(place.with_(type=place.type.with_(atomic=False)))
+        old = self.spilled(old) if wanted and after else old
         new = self.fitting(self.operated(op, old, by) if op else by, place.type)
-        if wanted and not after and place.height > 1 and new.number is None:
-            new = self.spilled(new)
+        new = self.spilled(new) if wanted and not after and place.height > 1 and new.number is None else new
         self.put(place, new)
         if place.type.atomic:
             self.emit(f"unlock(&{mutex.out});")
-        return kept or (new if place.height > 1 else self.loaded(place)) if wanted else None
+        if wanted:
+            return old if after else new if place.height > 1 else self.loaded(place)
 
     def x_FuncCall(self, node, _):
         args, name = node.args.exprs if node.args else [], node.name
@@ -378,9 +375,9 @@ class Expressions(Declarations):
         else:
             pointer = self.value(name)
             kind, first = pointer.type.to, (pointer.type.node, pointer)
-        self.refuse_if(len(kind.params or ()) != len(values) or len(values) + len(first) > 17,
+        self.refuse_if(len(kind.params) != len(values) or len(values) + len(first) > 17,
                        "call with another number of arguments, or with over 16")
-        values = [self.fitting(*each) for each in zip(values, kind.params or ())]
+        values = [*map(self.fitting, values, kind.params)]
         copies = [value for value in values if value.type.name == "value"]
         made = Expr("call", (*first, *values), kind.to, height=1 + max([2, *(value.height for value in values)]))
         if kind.to.name == "value":

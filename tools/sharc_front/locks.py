@@ -90,12 +90,12 @@ class Locksets:
         for name, accesses in sorted(self.accesses.items()):
             threads = [access for access in accesses.values() if access.thread]
             written = [access for access in accesses.values() if access.written]
-            if threads and written and not any(access.thread for access in written):
-                yield f"{name}: written by main alone ({in_lines(written)}), read by threads"
             counts = Counter(lock for access in threads for lock in access.locks)
             best = max(counts, key=lambda lock: (counts[lock], lock), default=None)
-            few = best is None or counts[best] < 0.6 * len(threads) and not 1 <= counts[best] == len(threads) - 1
-            if few or not any(access.thread for access in written):
+            by_main = not any(access.thread for access in written)
+            if threads and written and by_main:
+                yield f"{name}: written by main alone ({in_lines(written)}), read by threads"
+            if by_main or best is None or counts[best] < min(0.6 * len(threads), len(threads) - 1):
                 continue
             yield f"{name}: SHARC_LOCKED({best}), held at {counts[best]} of {len(threads)} accesses of threads"
             for access in [access for access in threads if best not in access.locks]:

@@ -124,20 +124,19 @@ class Front(Places):
         return " ".join([*inner, f"{text} {name}{f' = {self.text(constant)}' if constant else ''};"])
 
     def program(self):
-        functions = {symbol: self.function_lines(symbol) for symbol in self.functions.values()
-                     if symbol.definition and not symbol.header}
-        functions[self.functions["main"]][1:1] = self.initialisers()
+        functions = {name: [*self.flat(symbol.lines)] for name, symbol in self.functions.items() if symbol.lines}
+        functions["main"][1:1] = self.initialisers()
         globals_ = [chain for symbol in self.globals if symbol.uses or not symbol.place[0].startswith(HEADERS)
                     for chain in symbol.leaves() if not {chain[:1], chain} & self.groups.keys()]
         globals_ += dict.fromkeys(group for group, _ in self.groups.values())
         globals_ = [self.written(chain[0].place, self.global_text, chain, chain[-1].type, chain) for chain in globals_]
-        globals_ += [self.written(self.here, self.record_lines, symbol) for symbol in self.records]
+        globals_ += [self.written(symbol.place, self.record_lines, symbol) for symbol in self.records]
         last = [self.written(place, self.dispatcher, *each) for *each, place in self.calls_by.values()]
         for symbol, place in self.ends:
             if symbol not in self.records or symbol.called:
                 self.report(Refusal((place, "pthread_exit outside a thread function")))
         if self.reads_strings:
-            globals_.append((self.here, f"char racy {self.strings.out}[{sum(map(len, self.text_pool))}];"))
+            globals_.append((self.strings.place, f"char racy {self.strings.out}[{sum(map(len, self.text_pool))}];"))
         structs = []
         while rest := [owner for owner, *path in self.out_names if owner.kind == "struct" and not path][len(structs):]:
             structs.append(self.written(rest[0].place, self.struct_text, rest[0]))  # may name others
@@ -179,8 +178,7 @@ class Front(Places):
 
     def shown(self, line):
         """A line with its parts as text."""
-        texts = [self.text(part) if isinstance(part, Expr) else part if isinstance(part, str) else self.type_text(part)
-                 for part in line.parts]
+        texts = [self.text(part) if isinstance(part, Expr) else self.type_text(part) for part in line.parts]
         return line.text % tuple(texts)
 
     def flat(self, lines):
@@ -196,15 +194,11 @@ class Front(Places):
             if line.blocks:
                 yield place, "}"
 
-    def function_lines(self, symbol):
-        body = [*self.flat(symbol.lines)]
-        return [self.written(symbol.place, self.heading, symbol), *body, (body[-1][0] if body else symbol.place, "}")]
-
     def heading(self, symbol):
         if symbol.name == "main":
-            return "int main(void) {"
+            return "int main(void)"
         texts = [f"{self.type_text(param.type)} {self.part_name(param)}" for param in symbol.params]
-        return f"{self.type_text(symbol.type.to)} {self.part_name(symbol)}({', '.join(texts) or 'void'}) {{"
+        return f"{self.type_text(symbol.type.to)} {self.part_name(symbol)}({', '.join(texts) or 'void'})"
 
     def initialisers(self):
         """What main does before everything else."""

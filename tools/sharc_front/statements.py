@@ -161,7 +161,7 @@ class Statements(Expressions):
         if symbol.definition is None:
             symbol.type, names = kind, [param.name for param in decl.type.args.params] if kind.params else []
             symbol.params = [self.declare(name or "unnamed", "param", param, decl)
-                             for name, param in zip(names, kind.params or ())]
+                             for name, param in zip(names, kind.params)]
         return symbol
 
     def s_FuncDef(self, item):
@@ -171,7 +171,9 @@ class Statements(Expressions):
         symbol.definition, symbol.header = item, place_of(item.decl)[0].startswith(HEADERS)
         if not symbol.header:
             self.function, self.loops, self.here, self.own_names = symbol, [], symbol.place, set()
-            symbol.lines = self.captured(self.function_body, symbol, inner=True)[0]
+            body = self.captured(self.function_body, symbol, inner=True)[0]
+            heading = Expr("text", (lambda: self.heading(symbol),), VOID)
+            symbol.lines = [Line(symbol.place, "%s", (heading,), blocks=(body,))]
             self.refuse_if(len(self.own_names) > 200, f"function {symbol.name} with over 200 variables", symbol.place)
             self.function = None
 
