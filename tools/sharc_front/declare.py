@@ -141,24 +141,20 @@ class Declarations:
             self.scopes.update({tag: struct} if node.name else {})
         self.tags[id(node)] = struct
         for decl in node.decls or () if not struct.fields else ():
-            self.read_member(struct, decl)
+            name = getattr(decl, "name", None)
+            try:
+                self.refuse_if(not name or decl.bitsize, "bit field" if name else "member without a name", decl)
+                kind = self.type(decl.type)
+                self.refuse_if(kind.kind == "array" and kind.length is None, "array without a length in a struct", decl)
+            except Refusal as refusal:
+                kind = BAD
+                self.report(refusal)
+            struct.fields[name or ""] = member = self.declare(name or "", "member", kind, decl)
+            member.struct = struct
         return struct.type
 
-    def read_member(self, struct, decl):
-        """A member; its type is bad where it is refused."""
-        name, kind = getattr(decl, "name", None), BAD
-        try:
-            self.refuse_if(not name or decl.bitsize, "bit field" if name else "member without a name", decl)
-            read = self.type(decl.type)
-            self.refuse_if(read.kind == "array" and read.length is None, "array without a length in a struct", decl)
-            kind = read
-        except Refusal as refusal:
-            self.report(refusal)
-        struct.fields[name or ""] = member = self.declare(name or "", "member", kind, decl)
-        member.struct = struct
-
-    def declare(self, name, kind, type, node):
-        symbol = Symbol(name, kind, type, place_of(node, self.here), Node(self.nodes, type))
+    def declare(self, name, kind, type, node, own=False):
+        symbol = Symbol(name, kind, type, place_of(node, self.here), Node(self.nodes, type), own=own)
         symbol.shared = kind == "global" or type.atomic or name in self.addressed
         if kind == "global":
             symbol.address.globals[symbol,] = None

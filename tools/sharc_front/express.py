@@ -392,8 +392,7 @@ class Expressions(Declarations):
         """A pointer to a new object with the value of a struct, or to that which a call gave."""
         if value.given:
             return value.args[0]
-        symbol = self.declare("copy", "local", value.type.bare(), self.here)
-        symbol.own = True
+        symbol = self.declare("copy", "local", value.type.bare(), self.here, own=True)
         self.declare_local(symbol)
         self.copy(variable(symbol), self.stable(value))
         return address(variable(symbol))

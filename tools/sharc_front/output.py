@@ -9,7 +9,7 @@ from .ctype import CHAR, UNKNOWN, Refusal, Type, array, named, roots, settle
 from .declare import Symbol
 from .places import Places
 from .source import HEADERS, in_c, texts
-from .tree import NOTHING, Expr, number
+from .tree import Expr, number
 
 class Front(Places):
     def __init__(self, source, words, user):
@@ -29,8 +29,7 @@ class Front(Places):
         # the variables whose address is taken
         self.addressed = set(re.findall(r"&(\w+)(?:\.\w+)*(?![\w.[]|->)", in_c(source.tree)))
         self.global_names = {item.name for item in source.tree.ext if isinstance(item, A.Decl)}
-        self.strings = self.declare("strings", "global", array(CHAR, 1), self.here)
-        self.strings.own = True
+        self.strings = self.declare("strings", "global", array(CHAR, 1), self.here, own=True)
         self.strings.out = self.fresh("strings")
         self.statements(source.tree.ext)
         if not getattr(self.functions.get("main"), "definition", None):
@@ -209,15 +208,6 @@ class Front(Places):
                     self.notes.append((symbol.place, f"the initialiser of {symbol.name} is executed by main"))
         for at, byte in enumerate(b"".join(self.text_pool) if self.reads_strings else b""):
             yield self.functions["main"].place, f"{self.strings.out}[{at}] = {(byte ^ 128) - 128};" if byte else ""
-
-    def set_initialiser(self, symbol, values):
-        """The constants that parts of a global are declared with; main assigns the rest."""
-        for place, item in values:
-            lines, chain = self.captured(self.store, place, item)[0], place.chain()
-            value = lines[0].parts[-1] if len(lines) == 1 and lines[0].text == "%s = %s;" else NOTHING
-            if value.op == "number" and value.number > -(1 << 63) and chain:
-                symbol.constants.update({chain: value} if value.number else {})
-            symbol.rest += [(chain, lines)] if value is NOTHING or not value.null() else []
 
     def dispatcher(self, name, kind, root):
         """A function that calls one of several by its number."""

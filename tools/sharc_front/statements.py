@@ -6,7 +6,7 @@ from .declare import Symbol, place_of
 from .express import Expressions, Line, uncast
 from .locks import spelled
 from .source import HEADERS, in_c
-from .tree import Expr, binary, convert, joined, number, variable
+from .tree import NOTHING, Expr, binary, convert, joined, number, variable
 
 # the parameters of main: how many words there are, and the words
 ARGUMENTS = "void main(void) {{ int {} = {}; char *{}[] = {{ {} 0 }}; }}"
@@ -74,7 +74,13 @@ class Statements(Expressions):
         symbol, init = self.variable(node, "local" if self.function else "global"), uncast(node.init)
         values = self.scalars(variable(symbol), [node.init]) if init is not None else ()
         if symbol.kind == "global":
-            return self.set_initialiser(symbol, values)
+            for place, item in values:  # its declaration has constants, main assigns the rest
+                lines, chain = self.captured(self.store, place, item)[0], place.chain()
+                value = lines[0].parts[-1] if len(lines) == 1 and lines[0].text == "%s = %s;" else NOTHING
+                if value.op == "number" and value.number > -(1 << 63) and chain:
+                    symbol.constants.update({chain: value} if value.number else {})
+                symbol.rest += [(chain, lines)] if value is NOTHING or not value.null() else []
+            return
         self.declare_local(symbol, values)
         param = self.scopes.get(init.name) if isinstance(init, A.ID) else None
         if param in self.function.params and not self.loops and symbol.type.kind == param.type.kind == "ptr":
