@@ -46,7 +46,7 @@ class Expressions(Declarations):
 
     def own_name(self, name):
         made = self.fresh(name)
-        self.user.own.add(made)
+        self.user.words[made] = "(temporary)"
         self.own_names.add(made)
         return made
 

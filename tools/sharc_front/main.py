@@ -19,7 +19,7 @@ CHECKED = re.compile(r"((\S+):(\d+): (?:M\d+ (?:write to|null of) readonly|warni
 class Names:
     def __init__(self):
         self.words, self.lvalues = {}, {}  # {name in the text: in C}, {(place, lvalue in the text): its node of C}
-        self.own, self.hidden = set(), False  # variables of the front; whether the line before told of one
+        self.hidden = False  # whether the line before told of a variable of the front
 
     @staticmethod
     def packed(text):
@@ -31,8 +31,7 @@ class Names:
         return in_c(node) if node is not None else self.of_words(text)
 
     def of_words(self, text):
-        return re.sub(r"[A-Za-z_]\w*", lambda f: "(temporary)" if f[0] in self.own else self.words.get(f[0], f[0]),
-                      text)
+        return re.sub(r"[A-Za-z_]\w*", lambda found: self.words.get(found[0], found[0]), text)
 
     def told(self, found):
         what, lvalue, file, line, lock = found.groups()
@@ -53,7 +52,8 @@ class Names:
             return TOLD.sub(self.told, line) + "\n"
         if not (self.hidden and line.startswith("  ")):
             found = re.match(r"(.*?): (?:local|global|parameter|result|cast of) ?(\w*)", line)
-            self.hidden = bool(found) and (found[2] in self.own or found[1].startswith("what C does that the language"))
+            own = found and self.words.get(found[2]) == "(temporary)"
+            self.hidden = bool(own or found and found[1].startswith("what C does that the language"))
         return "" if self.hidden else self.of_words(line) + "\n"
 
 class Words:

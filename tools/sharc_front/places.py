@@ -42,16 +42,13 @@ class Places(Library):
 
     def spot(self, place):
         base, *rest = place.args
-        match place.op:
-            case "variable":
-                return self.entered(Spot(), base)
-            case "member":
-                return self.entered(self.spot(base), *rest)
-            case "element":
-                spot = self.spot(base)
-                spot.index = plus(spot.index, times(rest[0], place.type.cells()))
-                return spot
-        return self.pointed(base, rest[0], base.type.to)
+        if place.op == "at":
+            return self.pointed(base, *rest, base.type.to)
+        spot = Spot() if place.op == "variable" else self.spot(base)
+        if place.op != "element":
+            return self.entered(spot, place.args[-1])
+        spot.index = plus(spot.index, times(*rest, place.type.cells()))
+        return spot
 
     def entered(self, spot, symbol):
         """Where a member of the struct at a spot is; a variable is entered from nowhere."""

@@ -8,9 +8,6 @@ from .locks import spelled
 from .source import HEADERS, in_c
 from .tree import NOTHING, Expr, binary, convert, joined, number, variable
 
-# the parameters of main: how many words there are, and the words
-ARGUMENTS = "void main(void) {{ int {} = {}; char *{}[] = {{ {} 0 }}; }}"
-
 def items_of(node):
     """The statements of a block, or the one that stands for a block."""
     return [*node] if isinstance(node, (A.Compound, A.DeclList)) else [node] if node is not None else []
@@ -188,9 +185,9 @@ class Statements(Expressions):
         params = symbol.params
         if symbol.name == "main":
             words = ["".join(f"\\{byte:03o}" for byte in word.encode()) for word in self.arguments_given]
-            names = [param.name for param in params] + ["argc", "argv"][len(params):]
-            text = ARGUMENTS.format(names[0], len(words), names[1], "".join(f'"{word}", ' for word in words))
-            self.statements(c_parser.CParser().parse(text).ext[0].body.block_items[: len(params)])
+            values = (f"int %s = {len(words)};", "char *%s[] = { " + "".join(f'"{word}", ' for word in words) + "0 };")
+            text = " ".join(value % param.name for value, param in zip(values, params))
+            self.statements(c_parser.CParser().parse(f"void main(void) {{ {text} }}").ext[0].body.block_items or [])
         for param in params if symbol.name != "main" else []:
             self.scopes[param.name] = param
             self.declare_local(param)
