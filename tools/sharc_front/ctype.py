@@ -64,9 +64,6 @@ class Type:
         """The size in bytes; 0 where it is not known."""
         return ctypes.sizeof(self.layout())
 
-    def wide(self):
-        return self.kind == "int" and CELL[self.name] == "long"
-
     def shown(self):
         if self.kind in ("ptr", "array"):
             return self.to.shown() + (" *" if self.kind == "ptr" else f" [{self.length}]")

@@ -89,8 +89,8 @@ class Declarations:
             return self.type(named.type)
         if isinstance(named, Type) and named != BAD:
             return named
-        real = {"float", "double"} & set(node.names)
-        return self.refuse(node, None if named == BAD else "floating point" if real else "type " + " ".join(node.names))
+        what = "floating point" if {"float", "double"} & {*node.names} else "type " + " ".join(node.names)
+        return self.refuse(node, what if named != BAD else None)
 
     def t_ArrayDecl(self, node):
         kind = self.type(node.type)

@@ -2,7 +2,6 @@
 
 Calls stay in the tree, which the language evaluates from left to right. A call before the lines of a later operand, and
 a value that is written more than once, is in a variable."""
-import re
 from dataclasses import dataclass
 from functools import reduce
 from pycparser import c_ast as A
@@ -256,12 +255,8 @@ class Expressions(Declarations):
         value = self.value(inner)
         if op == "*":
             return value if value.type.kind == "ptr" and value.type.to.kind == "func" else self.deref(value)
-        if op == "!":
-            return self.operated("==", value, number(0))
-        name = promoted(value.type)
-        if op == "+":
-            return convert(value, name)
-        return binary("-", number(0), value, name) if op == "-" else binary("^", value, number(-1), name)
+        operands = {"!": ("==", value, number(0)), "-": ("-", number(0), value), "~": ("^", value, number(-1))}
+        return self.operated(*operands[op]) if op != "+" else convert(value, promoted(value.type))
 
     def x_BinaryOp(self, node, wanted):
         if node.op not in ("&&", "||"):
@@ -281,8 +276,7 @@ class Expressions(Declarations):
     def operated(self, op, left, right):
         kinds = (left.type.kind, right.type.kind)
         if "ptr" not in kinds:
-            name = promoted(left.type) if op in ("<<", ">>") else usual(left.type, right.type)
-            return binary(op, left, right, name)
+            return binary(op, left, right)
         if op in COMPARED:
             pointer = right if left.null() else left
             kind = Type("ptr", to=pointer.type.to, node=self.class_of(pointer))
@@ -432,8 +426,8 @@ class Expressions(Declarations):
         if length.number == 1:
             return act(number(0))
         at = self.temporary(ULONG if length.type.name == "ulong" else INT)
-        test = binary("<", at, length, usual(at.type, length.type))
-        self.emit("for (%s = 0; %s; %s = %s + 1)", at, test, at, at, blocks=(self.captured(act, at)[0], ()))
+        self.emit("for (%s = 0; %s; %s = %s + 1)", at, binary("<", at, length), at, at,
+                  blocks=(self.captured(act, at)[0], ()))
 
     @staticmethod
     def allocation(node):

@@ -61,17 +61,15 @@ class Words:
     def __init__(self, words):
         at = words.index("--") if "--" in words else len(words)
         rest, self.arguments = iter(words[:at]), words[at + 1 :]
-        self.command, self.options, self.file, self.rest = None, [], None, []
+        self.options, self.rest = [], []
         for word in rest:
             if word[:2] in ("-I", "-D", "-U"):
                 self.options += [word] if word[2:] else [word, next(rest, "")]
-            elif self.file is not None:
-                self.rest.append(word)
-            elif word in COMMANDS and self.command is None:
-                self.command = word
             else:
-                self.file = word
-        if (self.file or "-").startswith("-") or self.rest and self.command not in ("run", "record"):
+                self.rest.append(word)
+        self.command = self.rest.pop(0) if {*self.rest[:1]} & {*COMMANDS} else None
+        self.file = self.rest.pop(0) if self.rest else "-"
+        if self.file.startswith("-") or self.rest and self.command not in ("run", "record"):
             self.file = None
 
 def guarded(words):

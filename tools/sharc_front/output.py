@@ -13,19 +13,16 @@ from .tree import Expr, number
 
 class Front(Places):
     def __init__(self, source, words, user):
-        self.source, self.user = source, user
-        self.arguments_given = [words.file, *words.arguments]
-        self.function, self.here = None, (words.file, 1)
-        self.scopes = ChainMap()
+        self.source, self.user, self.arguments_given = source, user, [words.file, *words.arguments]
+        self.function, self.here, self.scopes = None, (words.file, 1), ChainMap()
         self.globals, self.functions, self.structs, self.refusals, self.nodes = [], {}, {}, [], []
         self.firsts = []  # (class of &a[0], class of a): a pointer to the array, unless others of its elements have one
         self.tags, self.typedef_names = {}, {}  # by their nodes; in self.scopes they are with a blank before them
-        self.names = set(source.words)
-        self.lines, self.loops, self.notes, self.cells, self.own_names = [], [], [], 0, set()
+        self.lines, self.loops, self.notes, self.cells = [], [], [], 0
+        self.names, self.own_names, self.helpers, self.reads_strings = set(source.words), set(), set(), False
         self.pinned, self.bound = False, None  # in a function of the headers: the place of the call, and its argument
         self.out_names, self.text_pool, self.calls_by, self.groups = {}, {}, {}, {}
         self.numbers, self.records, self.joins, self.started, self.ends = {}, {}, [], [], []
-        self.reads_strings, self.helpers = False, set()
         # the variables whose address is taken
         self.addressed = set(re.findall(r"&(\w+)(?:\.\w+)*(?![\w.[]|->)", in_c(source.tree)))
         self.global_names = {item.name for item in source.tree.ext if isinstance(item, A.Decl)}

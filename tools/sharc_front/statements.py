@@ -130,7 +130,7 @@ class Statements(Expressions):
         for chosen, case in enumerate(cases):
             if isinstance(case, A.Case):
                 label = number(self.constant(case.expr), kind)
-                self.emit(f"if (%s) %s = {chosen};", binary("==", value, label, kind), at)
+                self.emit(f"if (%s) %s = {chosen};", binary("==", value, label), at)
             self.refuse_if(any(isinstance(part, (A.Decl, A.DeclList)) for part in case.stmts) and
                            chosen + 1 < len(cases), "declaration in a case that is not the last, outside a block")
             reached = A.BinaryOp("<=", A.ID(at.args[0].out), A.Constant("int", str(chosen)))

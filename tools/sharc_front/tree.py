@@ -4,7 +4,7 @@ SharC has no unsigned types: an unsigned value of less than 64 bits is masked af
 bits is held by its bits, and functions of headers/arithmetic.sharc compare, multiply and divide it."""
 import operator
 from dataclasses import dataclass, replace
-from .ctype import BITS, CELL, UNSIGNED, VOID, Type, limits
+from .ctype import BITS, CELL, UNSIGNED, VOID, Type, limits, promoted, usual
 
 LEVELS = {"||": 1, "&&": 2, "|": 3, "^": 4, "&": 5, "==": 6, "!=": 6, "<": 7, ">": 7, "<=": 7, ">=": 7, "<<": 8,
           ">>": 8, "+": 9, "-": 9, "*": 10, "/": 10, "%": 10}
@@ -41,7 +41,7 @@ class Expr:
 
     def __post_init__(self):
         if self.wide is None:
-            self.wide = self.op in (*PLACES, "call") and self.type.wide()
+            self.wide = self.op in (*PLACES, "call") and CELL.get(self.type.name) == "long"
         if self.op in PLACES:
             self.height = 1 if self.op == "variable" and not self.args[0].shared else 3
         self.calls = self.op in ("call", "scast") or any(arg.calls for arg in self.args if isinstance(arg, Expr))
@@ -91,7 +91,7 @@ def number(value, name="int"):
 def joined(op, name, *values):
     """A value of the C type `name`: an operator of SharC, or a function of headers/arithmetic.sharc, on others."""
     operands = values[:1] if op in ("<<", ">>") else () if op in TRUTHS else values
-    wide = Type("int", name).wide() if op.startswith("__sharc_") else any(value.wide for value in operands)
+    wide = CELL[name] == "long" if op.startswith("__sharc_") else any(value.wide for value in operands)
     return Expr(op, values, Type("int", name), wide=wide, height=1 + max(value.height for value in values))
 
 def convert(value, name):
@@ -115,8 +115,9 @@ def folded(op, left, right, name):
         return number(int(value))
     return number(value, name) if op == "<<" or name in UNSIGNED or low <= value <= high else None
 
-def binary(op, left, right, name):
-    """left op right in the C type `name`, to which both operands are converted (the left one alone for shifts)."""
+def binary(op, left, right, name=None):
+    """left op right in the C type `name`, else in that of C11 6.5, to which both are converted, or the left of a shift."""
+    name = name or (promoted(left.type) if op in ("<<", ">>") else usual(left.type, right.type))
     small = all(side.number >= 0 if side.number is not None else side.type.name in UNSIGNED - {"ulong"}
                 for side in (left, right))  # whether both as an unsigned long are less than 2^63
     left, right = convert(left, name), right if op in ("<<", ">>") else convert(right, name)
