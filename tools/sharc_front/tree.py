@@ -116,7 +116,7 @@ def folded(op, left, right, name):
     return number(value, name) if op == "<<" or name in UNSIGNED or low <= value <= high else None
 
 def binary(op, left, right, name=None):
-    """left op right in the C type `name`, else in that of C11 6.5, to which both are converted, or the left of a shift."""
+    """left op right in the C type `name`, or in that of C11 6.5, to which both are converted, of a shift the left."""
     name = name or (promoted(left.type) if op in ("<<", ">>") else usual(left.type, right.type))
     small = all(side.number >= 0 if side.number is not None else side.type.name in UNSIGNED - {"ulong"}
                 for side in (left, right))  # whether both as an unsigned long are less than 2^63
