@@ -11,6 +11,7 @@ from .source import texts
 from .statements import Statements
 from .tree import NOTHING, PLACES, Expr, binary, convert, joined, number, times
 
+ALIKE = {"calloc": "malloc", "memset": "memcpy"}
 PIECE = re.compile(r"((?:[^%]|%%)+)|%([-+ 0#]*)(\d*)(?:\.(\d*))?(hh|h|ll|l|z|j|t|q)?([a-zA-Z])")
 # a thread function is called by one that has the record; the argument is taken out of it, so that what it points to has
 # one reference
@@ -19,7 +20,7 @@ RECORD, START, RESULT = (Template(" ".join(text.split())) for text in texts("thr
 class Library(Statements):
     def library(self, node, name, args):
         """A call of a function that is neither in the program nor in the headers."""
-        handler = getattr(self, "l_" + name.strip("_"), None)
+        handler = getattr(self, "l_" + ALIKE.get(name, name).strip("_"), None)
         self.refuse_if(handler is None, f"call of {name.replace('__sharc_', '')}, which is not known", node)
         return handler(args) or number(0)
 
@@ -82,8 +83,6 @@ class Library(Statements):
         self.counting(length, lambda at: self.copy(self.deref(to, at), source if same else self.deref(source, at)))
         return to
 
-    l_memset = l_memcpy
-
     def factors(self, size):
         """A size in bytes as values that are multiplied."""
         multiplied = size.op in ("*", "__sharc_product64")
@@ -103,8 +102,6 @@ class Library(Statements):
         made = self.temporary(self.pointer(VOID))
         self.allocate(made, args)
         return Expr("scast", (made, made.type), made.type, height=3)
-
-    l_calloc = l_malloc
 
     def allocate(self, place, args):
         node, factors = place.type.node, [factor for arg in args for factor in self.factors(self.value(arg))]
