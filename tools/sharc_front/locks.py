@@ -37,10 +37,9 @@ class Locksets:
     def follow(self, lines, held):
         """The locks that are held after lines, or None where nothing is reached, of those that are held before."""
         for line in lines:
-            for at, part in enumerate(line.parts):
-                if isinstance(part, Expr):
-                    written = at == 0 and line.text.startswith("%s = ")
-                    self.event(part, line, written, held or frozenset())
+            for part in [part for part in line.parts if isinstance(part, Expr)]:
+                written = part is line.parts[0] and line.text.startswith("%s = ")
+                self.event(part, line, written, held or frozenset())
             ends = [self.follow(block, held) for block in line.blocks]
             reached = [end for end in ends if end is not None]
             held = frozenset.intersection(*reached) if reached else None if ends else held

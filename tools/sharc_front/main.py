@@ -67,7 +67,7 @@ class Words:
                 self.options += [word] if word[2:] else [word, next(rest, "")]
             else:
                 self.rest.append(word)
-        self.command = self.rest.pop(0) if {*self.rest[:1]} & {*COMMANDS} else None
+        self.command = self.rest.pop(0) if self.rest and self.rest[0] in COMMANDS else None
         self.file = self.rest.pop(0) if self.rest else "-"
         if self.file.startswith("-") or self.rest and self.command not in ("run", "record"):
             self.file = None

@@ -18,10 +18,8 @@ class Statements(Expressions):
         for node in nodes:
             self.here = self.here if self.pinned else place_of(node, self.here)
             try:
-                if isinstance(node, (A.Decl, A.DeclList, A.Typedef, A.FuncDef)):
-                    self.lowered(node)
-                else:
-                    self.blocked(self.lowered, node)
+                declares = isinstance(node, (A.Decl, A.Typedef, A.FuncDef))
+                self.lowered(node) if declares else self.blocked(self.lowered, node)
             except UNKNOWN as error:
                 self.report(error, f"`{in_c(node)[:60]}`, of a form that the front does not know")
                 if isinstance(node, (A.Decl, A.Typedef)) and node.name:
@@ -47,13 +45,12 @@ class Statements(Expressions):
     def lowered(self, node):
         """A statement of few lines; of others there is a method each."""
         match node:
-            case A.Compound() | A.DeclList():
+            case A.Compound():
                 self.statements(items_of(node))
             case A.EmptyStatement() | A.StaticAssert():
                 pass
             case A.If():
-                test = self.value(node.cond)
-                self.branch(test, self.body(node.iftrue), self.body(node.iffalse))
+                self.branch(self.value(node.cond), self.body(node.iftrue), self.body(node.iffalse))
             case A.While() | A.DoWhile():
                 self.loop(node.cond, [], node.stmt, ends=isinstance(node, A.DoWhile))
             case A.For():
