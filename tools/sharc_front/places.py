@@ -69,11 +69,10 @@ class Places(Library):
     def pointed(self, pointer, index, kind):
         """Where the element `index` of what a pointer points to is."""
         node = self.class_of(pointer)
-        how = node.how
-        if how in HEAP:
+        if node.how in HEAP:
             node.pointee()  # it is of one type
             return Spot((), times(index, kind.cells()), self.text(pointer), node.boxes)
-        self.refuse_if(how != "global", "use of a pointer that is always NULL or a number")
+        self.refuse_if(node.how != "global", "use of a pointer that is always NULL or a number")
         chain = next(iter(node.globals))
         self.reads_strings |= chain[0] is self.strings
         kinds, moves = [symbol.type for symbol in chain], "order" in node.seen
@@ -97,10 +96,9 @@ class Places(Library):
             return name
         if spot.boxes:
             name, index = f"{name}[{self.text(index)}]", number(0)
-        if spot.inner:
-            first = spot.pointer and index.null()
-            return name + ("->" if first else f"[{self.text(index)}].") + self.part_name(*spot.inner)
-        return f"{name}[{self.text(index)}]"
+        if spot.inner and spot.pointer and index.null():
+            return f"{name}->{self.part_name(*spot.inner)}"
+        return f"{name}[{self.text(index)}]" + (f".{self.part_name(*spot.inner)}" if spot.inner else "")
 
     def text(self, value, level=0):
         """A value, in parentheses where it binds less than `level`."""
