@@ -265,6 +265,7 @@ class Expressions(Declarations):
         lines, right = self.captured(self.value, node.right, wanted)
         ends = left.null() == (node.op == "&&")  # where the left operand is constant, whether it is all that counts
         if left.number is not None and (ends or right and right.number is not None):
+            self.lines += [] if ends else lines
             return number(int(node.op == "||") if ends else int(not right.null()))
         if not lines and wanted:
             return joined(node.op, "int", left, right)
@@ -309,6 +310,7 @@ class Expressions(Declarations):
             kind = self.pointer((right if other else left).type.to)
         left, right = self.fitting(left, kind), self.fitting(right, kind)
         if None not in (test.number, left.number, right.number) and kind.kind == "int" and target is None:
+            self.lines += second if test.null() else first
             return right if test.null() else left
         target = target or self.temporary(kind)
         self.branch(test, *(self.captured(self.put, target, value, after=lines)[0]

@@ -1,4 +1,4 @@
-"""The command: lowers a file to standard output, or runs the program on what it lowered."""
+"""The command: lowers a file to standard output, or runs the program on that, and puts the user's names back."""
 import os
 import re
 import subprocess
@@ -17,6 +17,7 @@ TOLD = re.compile(r"\b(?P<what>read of|write of|cast of|free of|waits for mutex)
 CHECKED = re.compile(r"((\S+):(\d+): (?:M\d+ (?:write to|null of) readonly|warning)) (.*?)(| may be NULL since .*)$")
 
 class Names:
+    """The user's names for what the program says of the lowered text."""
     def __init__(self):
         self.words, self.lvalues = {}, {}  # {name in the text: in C}, {(place, lvalue in the text): its node of C}
         self.hidden = False  # whether the line before told of a variable of the front
@@ -52,8 +53,8 @@ class Names:
             return TOLD.sub(self.told, line) + "\n"
         if not (self.hidden and line.startswith("  ")):
             found = re.match(r"(.*?): (?:local|global|parameter|result|cast of) ?(\w*)", line)
-            own = found and self.words.get(found[2]) == "(temporary)"
-            self.hidden = bool(own or found and found[1].startswith("what C does that the language"))
+            self.hidden = bool(found and (self.words.get(found[2]) == "(temporary)" or
+                                          found[1].startswith("what C does that the language")))
         return "" if self.hidden else self.of_words(line) + "\n"
 
 class Words:
