@@ -18,7 +18,7 @@ LAYOUTS = {**{name: getattr(ctypes, f"c_int{max(8, bits)}") for name, bits in {*
                "struct pthread_barrier_t": 4, "struct pthread_rwlock_t": 7}.items()}}
 
 class Refusal(Exception):
-    """Its arguments are places, as (file, line), each with what is refused there, or None where it was said already."""
+    """Its arguments are pairs: (file, line), or None for where the front is; what is refused, or None if it was said."""
 
 HEAP = ("heap", "boxes")
 # what may come of C that the front does not know
