@@ -1,11 +1,8 @@
 """Declarations: types, structs, enums, names and their scopes, initialisers and strings (C11 6.2.1, 6.4.5, 6.7)."""
-
 import re
-
 from pycparser import c_ast as A
-from .classes import Node, unify
-from .ctype import BAD, BOOL, COND, INT, MUTEX, UINT, VOID, Refusal, Type, array
-from .names import in_c
+from .ctype import BAD, BOOL, COND, INT, MUTEX, UINT, VOID, Node, Refusal, Type, array, unify
+from .source import in_c
 from .tree import element, number, variable
 
 # the types that a few words name, without `signed` and `int`, in the order of the alphabet
@@ -53,7 +50,8 @@ class Declarations:
 
     def report(self, error, what=None):
         """Notes a refusal, or another error as one with this text."""
-        self.refusals += error.args if isinstance(error, Refusal) else [(self.here, what)]
+        args = error.args if isinstance(error, Refusal) else [(None, what)]
+        self.refusals += [(place or self.here, told) for place, told in args]
 
     def fresh(self, name):
         """A name that nothing has, of at most 60 bytes."""
@@ -91,8 +89,8 @@ class Declarations:
             return self.type(named.type)
         if isinstance(named, Type) and named != BAD:
             return named
-        real = {"float", "double"} & set(node.names)
-        return self.refuse(node, None if named == BAD else "floating point" if real else "type " + " ".join(node.names))
+        what = "floating point" if {"float", "double"} & {*node.names} else "type " + " ".join(node.names)
+        return self.refuse(node, what if named != BAD else None)
 
     def t_ArrayDecl(self, node):
         kind = self.type(node.type)
@@ -105,12 +103,11 @@ class Declarations:
         return value if value is not None else self.refuse(node, f"`{in_c(node)}`, which is not constant")
 
     def t_FuncDecl(self, node):
-        params, result = node.args.params if node.args else None, self.adjusted(self.type(node.type))
+        params, result = node.args.params if node.args else [], self.adjusted(self.type(node.type))
         if params and isinstance(params[-1], A.EllipsisParam):
             return Type("func", name="...", to=result)
-        kinds = [self.adjusted(self.type(param.type)) for param in params or [] if not isinstance(param, A.ID)]
-        none = [kind.kind for kind in kinds] == ["void"]
-        return Type("func", to=result, params=() if none else None if params is None else tuple(kinds))
+        kinds = [self.adjusted(self.type(param.type)) for param in params if not isinstance(param, A.ID)]
+        return Type("func", to=result, params=() if kinds == [VOID] else tuple(kinds))
 
     def adjusted(self, kind):
         """The type of a parameter or result (C11 6.7.6.3); a struct goes as a pointer to a copy."""
@@ -144,29 +141,25 @@ class Declarations:
             self.scopes.update({tag: struct} if node.name else {})
         self.tags[id(node)] = struct
         for decl in node.decls or () if not struct.fields else ():
-            self.read_member(struct, decl)
+            name = getattr(decl, "name", None)
+            try:
+                self.refuse_if(not name or decl.bitsize, "bit field" if name else "member without a name", decl)
+                kind = self.type(decl.type)
+                self.refuse_if(kind.kind == "array" and kind.length is None, "array without a length in a struct", decl)
+            except Refusal as refusal:
+                kind = BAD
+                self.report(refusal)
+            struct.fields[name or ""] = member = self.declare(name or "", "member", kind, decl)
+            member.struct = struct
         return struct.type
 
-    def read_member(self, struct, decl):
-        """A member; its type is bad where it is refused."""
-        name, kind = getattr(decl, "name", None), BAD
-        try:
-            self.refuse_if(not name or decl.bitsize, "bit field" if name else "member without a name", decl)
-            read = self.type(decl.type)
-            self.refuse_if(read.kind == "array" and read.length is None, "array without a length in a struct", decl)
-            kind = read
-        except Refusal as refusal:
-            self.report(refusal)
-        struct.fields[name or ""] = member = self.declare(name or "", "member", kind, decl)
-        member.struct = struct
-
-    def declare(self, name, kind, type, node):
-        symbol = Symbol(name, kind, type, place_of(node, self.here), Node(self.nodes, type))
+    def declare(self, name, kind, type, node, own=False):
+        symbol = Symbol(name, kind, type, place_of(node, self.here), Node(self.nodes, type), own=own)
         symbol.shared = kind == "global" or type.atomic or name in self.addressed
         if kind == "global":
             symbol.address.globals[symbol,] = None
         else:
-            symbol.address.mark("heap")
+            symbol.address.seen.add("heap")
             mutex = kind != "member" and any(chain[-1].type == MUTEX for chain in symbol.leaves())
             symbol.apart = mutex or type.kind == "array"
         return symbol

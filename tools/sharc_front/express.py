@@ -2,14 +2,10 @@
 
 Calls stay in the tree, which the language evaluates from left to right. A call before the lines of a later operand, and
 a value that is written more than once, is in a variable."""
-
-import re
 from dataclasses import dataclass
 from functools import reduce
-
 from pycparser import c_ast as A
-from .classes import Node
-from .ctype import BAD, BITS, BOOL, CHAR, INT, LONG, ULONG, VOID, Type, array, promoted, usual
+from .ctype import BAD, BITS, BOOL, CHAR, INT, LONG, ULONG, VOID, Node, Type, array, promoted, usual
 from .declare import Declarations, Symbol, place_of
 from .tree import COMPARED, NOTHING, PLACES, TRUTHS, Expr, address, binary, convert, element, joined, member, number, \
     plus, variable
@@ -20,7 +16,7 @@ SPOKEN = {"Compound": "statement expression", "Case": "case inside another state
 class Line:
     place: tuple
     text: str  # with %s for each part
-    parts: tuple = ()  # trees, types and texts
+    parts: tuple = ()  # trees and types
     declares: bool = False
     blocks: tuple = ()  # the lines of a block, and of what may be executed in its place
 
@@ -49,16 +45,16 @@ class Expressions(Declarations):
 
     def own_name(self, name):
         made = self.fresh(name)
-        self.user.own.add(made)
+        self.user.words[made] = "(temporary)"
         self.own_names.add(made)
         return made
 
     def temporary(self, type, value=None):
         """A variable of the front's own, which may be given a value."""
         type = type.bare()
-        symbol = Symbol("t", "local", type, self.here, Node(self.nodes, type), self.own_name("t"), True)
-        self.emit("%s %s = %s;" if value else "%s %s;", *filter(None, (type, symbol.out, value)), declares=True)
-        return variable(symbol)
+        made = variable(Symbol("t", "local", type, self.here, Node(self.nodes, type), self.own_name("t"), True))
+        self.emit("%s %s = %s;" if value else "%s %s;", *filter(None, (type, made, value)), declares=True)
+        return made
 
     def spilled(self, value):
         """A value in a variable of its own."""
@@ -108,7 +104,7 @@ class Expressions(Declarations):
         if made.op == "at":
             self.class_of(made.args[0]).point_to(kind)
             if not made.args[1].null():
-                self.class_of(made.args[0]).mark("indexed")
+                self.class_of(made.args[0]).seen.add("indexed")
         return made if made.type.atomic == kind.atomic else made.with_(type=kind)
 
     def loaded(self, place):
@@ -126,14 +122,14 @@ class Expressions(Declarations):
         if place.op == "variable":
             return base.address
         if place.op == "member":
-            return self.address_class(base).part(*inner)
+            return self.address_class(base).parts[inner[0]]
         whole, first = self.address_class(base) if place.op == "element" else self.class_of(base), inner[0].null()
         if place.type.kind == "array" or first and not taken:
             return whole
-        node = Node(self.nodes) if first else whole.part("element")
+        node = Node(self.nodes) if first else whole.parts["element"]
         self.firsts += [(node, whole)] * first
         if taken:
-            whole.mark("order")
+            whole.seen.add("order")
         return node
 
     def class_of(self, value):
@@ -144,7 +140,7 @@ class Expressions(Declarations):
                 place.chain()[0].apart = True
             node = self.address_class(place, True)
             node.point_to(value.type.to)
-            node.mark("taken")
+            node.seen.add("taken")
             value.type = value.type.with_(node=node)
         return value.type.node
 
@@ -255,17 +251,12 @@ class Expressions(Declarations):
             made = self.visit(inner)
             return made if made.op == "number" else address(made)  # the number of a function
         if op in ("++", "--", "p++", "p--"):
-            place = self.stable_place(self.visit(inner))
-            return self.changed(place, wanted, A.Constant("int", "1"), op[-1], after=op[0] == "p")
+            return self.assigned(self.visit(inner), op[-1], A.Constant("int", "1"), wanted, after=op[0] == "p")
         value = self.value(inner)
         if op == "*":
             return value if value.type.kind == "ptr" and value.type.to.kind == "func" else self.deref(value)
-        if op == "!":
-            return self.operated("==", value, number(0))
-        name = promoted(value.type)
-        if op == "+":
-            return convert(value, name)
-        return binary("-", number(0), value, name) if op == "-" else binary("^", value, number(-1), name)
+        operands = {"!": ("==", value, number(0)), "-": ("-", number(0), value), "~": ("^", value, number(-1))}
+        return self.operated(*operands[op]) if op != "+" else convert(value, promoted(value.type))
 
     def x_BinaryOp(self, node, wanted):
         if node.op not in ("&&", "||"):
@@ -274,6 +265,7 @@ class Expressions(Declarations):
         lines, right = self.captured(self.value, node.right, wanted)
         ends = left.null() == (node.op == "&&")  # where the left operand is constant, whether it is all that counts
         if left.number is not None and (ends or right and right.number is not None):
+            self.lines += [] if ends else lines
             return number(int(node.op == "||") if ends else int(not right.null()))
         if not lines and wanted:
             return joined(node.op, "int", left, right)
@@ -285,8 +277,7 @@ class Expressions(Declarations):
     def operated(self, op, left, right):
         kinds = (left.type.kind, right.type.kind)
         if "ptr" not in kinds:
-            name = promoted(left.type) if op in ("<<", ">>") else usual(left.type, right.type)
-            return binary(op, left, right, name)
+            return binary(op, left, right)
         if op in COMPARED:
             pointer = right if left.null() else left
             kind = Type("ptr", to=pointer.type.to, node=self.class_of(pointer))
@@ -302,7 +293,7 @@ class Expressions(Declarations):
         return base if index.null() else address(self.at(base, index), base.type.to)
 
     def ordered(self, value):
-        self.class_of(value).mark("order")
+        self.class_of(value).seen.add("order")
         return Expr("ordered", (value,), LONG, wide=True)
 
     def x_TernaryOp(self, node, wanted, target=None):
@@ -319,6 +310,7 @@ class Expressions(Declarations):
             kind = self.pointer((right if other else left).type.to)
         left, right = self.fitting(left, kind), self.fitting(right, kind)
         if None not in (test.number, left.number, right.number) and kind.kind == "int" and target is None:
+            self.lines += second if test.null() else first
             return right if test.null() else left
         target = target or self.temporary(kind)
         self.branch(test, *(self.captured(self.put, target, value, after=lines)[0]
@@ -337,34 +329,32 @@ class Expressions(Declarations):
             return NOTHING
         value = self.value(node.expr)
         if {value.type.kind, kind.kind} == {"ptr", "int"} and kind.name != "bool" and not value.null():
-            (kind.node or self.class_of(value)).mark("integer")
+            (kind.node or self.class_of(value)).seen.add("integer")
             value = value.typed(LONG).with_(wide=True) if kind.node is None else convert(value, "long").typed(kind)
         return self.fitting(value, kind)
 
     def x_Assignment(self, node, wanted):
-        place, op = self.visit(node.lvalue), node.op[:-1]
-        place = self.stable_place(place) if op or wanted or place.calls else place
-        if op or place.type.atomic or wanted and place.type.kind != "struct" and not self.allocation(node.rvalue):
-            return self.changed(place, wanted, node.rvalue, op)
-        self.store(place, node.rvalue)
-        return place if wanted else None
+        return self.assigned(self.visit(node.lvalue), node.op[:-1], node.rvalue, wanted)
 
-    def changed(self, place, wanted, by, op, after=False):
+    def assigned(self, place, op, by, wanted, after=False):
         """a = b, a op= b, a++: the value is the old one if `after`. Atomic variables are changed under one mutex."""
+        place = self.stable_place(place) if op or wanted or place.calls else place
+        if not op and not place.type.atomic and (not wanted or place.type.kind == "struct" or self.allocation(by)):
+            self.store(place, by)
+            return place if wanted else None
         by, mutex = self.value(by), self.scopes.maps[-1]["__sharc_atomics"]
         if place.type.atomic:
             by, mutex.uses = self.stable(by), mutex.uses + 1
             self.emit(f"lock(&{mutex.out});")
-        kept, old = None, op and self.loaded(place.with_(type=place.type.with_(atomic=False)))
-        if wanted and after:
-            kept = old = self.spilled(old)
+        old = op and self.loaded(place.with_(type=place.type.with_(atomic=False)))
+        old = self.spilled(old) if wanted and after else old
         new = self.fitting(self.operated(op, old, by) if op else by, place.type)
-        if wanted and not after and place.height > 1 and new.number is None:
-            new = self.spilled(new)
+        new = self.spilled(new) if wanted and not after and place.height > 1 and new.number is None else new
         self.put(place, new)
         if place.type.atomic:
             self.emit(f"unlock(&{mutex.out});")
-        return kept or (new if place.height > 1 else self.loaded(place)) if wanted else None
+        if wanted:
+            return old if after else new if place.height > 1 else self.loaded(place)
 
     def x_FuncCall(self, node, _):
         args, name = node.args.exprs if node.args else [], node.name
@@ -381,9 +371,9 @@ class Expressions(Declarations):
         else:
             pointer = self.value(name)
             kind, first = pointer.type.to, (pointer.type.node, pointer)
-        self.refuse_if(len(kind.params or ()) != len(values) or len(values) + len(first) > 17,
+        self.refuse_if(len(kind.params) != len(values) or len(values) + len(first) > 17,
                        "call with another number of arguments, or with over 16")
-        values = [self.fitting(*each) for each in zip(values, kind.params or ())]
+        values = [*map(self.fitting, values, kind.params)]
         copies = [value for value in values if value.type.name == "value"]
         made = Expr("call", (*first, *values), kind.to, height=1 + max([2, *(value.height for value in values)]))
         if kind.to.name == "value":
@@ -398,8 +388,7 @@ class Expressions(Declarations):
         """A pointer to a new object with the value of a struct, or to that which a call gave."""
         if value.given:
             return value.args[0]
-        symbol = self.declare("copy", "local", value.type.bare(), self.here)
-        symbol.own = True
+        symbol = self.declare("copy", "local", value.type.bare(), self.here, own=True)
         self.declare_local(symbol)
         self.copy(variable(symbol), self.stable(value))
         return address(variable(symbol))
@@ -439,8 +428,8 @@ class Expressions(Declarations):
         if length.number == 1:
             return act(number(0))
         at = self.temporary(ULONG if length.type.name == "ulong" else INT)
-        test = binary("<", at, length, usual(at.type, length.type))
-        self.emit("for (%s = 0; %s; %s = %s + 1)", at, test, at, at, blocks=(self.captured(act, at)[0], ()))
+        self.emit("for (%s = 0; %s; %s = %s + 1)", at, binary("<", at, length), at, at,
+                  blocks=(self.captured(act, at)[0], ()))
 
     @staticmethod
     def allocation(node):

@@ -1,21 +1,26 @@
-"""Calls that C cannot say: a method a function. The rest of the libraries is C in headers/."""
+"""Calls that C cannot say: a method a function. The rest of the libraries is C in headers/.
 
+Each thread is started on a record with its argument, in which its result is found."""
 import math
 import re
-
+from string import Template
 from pycparser import c_ast as A
-from .classes import HEAP
-from .ctype import INT, VOID
-from .express import Line
+from .ctype import HEAP, INT, VOID
+from .express import Line, uncast
+from .source import texts
 from .statements import Statements
 from .tree import NOTHING, PLACES, Expr, binary, convert, joined, number, times
 
+ALIKE = {"calloc": "malloc", "memset": "memcpy"}
 PIECE = re.compile(r"((?:[^%]|%%)+)|%([-+ 0#]*)(\d*)(?:\.(\d*))?(hh|h|ll|l|z|j|t|q)?([a-zA-Z])")
+# a thread function is called by one that has the record; the argument is taken out of it, so that what it points to has
+# one reference
+RECORD, START, RESULT = (Template(" ".join(text.split())) for text in texts("threads.sharc"))
 
 class Library(Statements):
     def library(self, node, name, args):
         """A call of a function that is neither in the program nor in the headers."""
-        handler = getattr(self, "l_" + name.strip("_"), None)
+        handler = getattr(self, "l_" + ALIKE.get(name, name).strip("_"), None)
         self.refuse_if(handler is None, f"call of {name.replace('__sharc_', '')}, which is not known", node)
         return handler(args) or number(0)
 
@@ -78,8 +83,6 @@ class Library(Statements):
         self.counting(length, lambda at: self.copy(self.deref(to, at), source if same else self.deref(source, at)))
         return to
 
-    l_memset = l_memcpy
-
     def factors(self, size):
         """A size in bytes as values that are multiplied."""
         multiplied = size.op in ("*", "__sharc_product64")
@@ -100,23 +103,21 @@ class Library(Statements):
         self.allocate(made, args)
         return Expr("scast", (made, made.type), made.type, height=3)
 
-    l_calloc = l_malloc
-
     def allocate(self, place, args):
         node, factors = place.type.node, [factor for arg in args for factor in self.factors(self.value(arg))]
         place = self.stable_place(place)
-        node.mark("heap")
+        node.seen.add("heap")
 
         def allocated():
-            to = place.type.to if place.type.to.kind != "void" else node.pointee_type(self.here)
+            to = place.type.to if place.type.to.kind != "void" else node.pointee()
             length = times(self.count(to, factors), to.cells())
-            return self.new_object(self.text(place), to.base(), length, self.boxes(node))
+            return self.new_object(self.text(place), to.base(), length, node.boxes)
         self.later(allocated, place)
 
     def l_free(self, args):
         value = self.value(args[0])
         value = value if value.op in PLACES or value.null() else self.spilled(value)
-        self.later(lambda: f"free({self.text(value)});" if self.how(self.class_of(value)) in HEAP else "", value)
+        self.later(lambda: f"free({self.text(value)});" if self.class_of(value).how in HEAP else "", value)
 
     def l_sharc_stop(self, args):
         """Stops the thread, by a division by 0 in a file whose name says what it stands for."""
@@ -138,3 +139,81 @@ class Library(Statements):
 
     def l_sharc_give(self, args):
         return self.given(self.value(args[0]))
+
+    def l_pthread_create(self, args):
+        self.blocked(self.created, *args)
+
+    def created(self, target, attributes, start, arg):
+        self.value(attributes)  # those that can be set change nothing here
+        place, start = self.stable_place(self.deref(self.value(target))), self.stable(self.value(start))
+        self.started.append(start.type.node)
+        value = self.value(arg)
+        if value.place() and value.place().chain():
+            value.place().chain()[0].started.append(len(self.loops))
+        value = self.given(self.fitting(value, start.type.to.params[0]), True)
+
+        def lines():
+            """Starts one of the functions that `start` may be."""
+            functions = start.type.node.functions
+            texts = [START.substitute(self.records[symbol], own=self.own_name("own"), given=self.own_name("given"),
+                                      target=self.text(place), argument=self.text(value)) for symbol in functions]
+            return texts[0] if len(texts) == 1 else " ".join(f"if ({self.text(start)} == {self.numbers[symbol]}) {text}"
+                                                             for symbol, text in zip(functions, texts))
+        self.later(lines, place, value)
+
+    def given(self, value, automatic=False):
+        """Hands over what `value` points to: a cast whose result is put back. Without a mark this is done for the
+        address of an object that this thread alone has."""
+        node = self.class_of(value)
+        if value.calls:
+            self.refuse_if(not automatic, "call within what is handed over")
+            return value
+        name, kind = self.own_name("t"), value.type
+
+        def lines():
+            if automatic and not self.handed(value):
+                return ""
+            self.refuse_if(node.how not in HEAP, "SHARC_GIVE of a number")
+            self.notes.append((self.here, "what the argument of the thread points to is handed over (SCAST)"))
+            kind_text, text = self.type_text(kind), self.text(value)
+            return f"{kind_text} {name} = SCAST({kind_text}, {text}); {text} = {name};"
+        self.later(lines, declares=True)
+        return Expr("text", (lambda: self.text(value) if automatic and not self.handed(value) else name, value), kind)
+
+    def handed(self, value):
+        """Whether the argument of a thread is the address of an object of this thread alone."""
+        place = value.place()
+        whole = place.args[0] if place and place.op == "element" else place
+        if not place or place.type.kind == "array" or whole.op != "variable" or whole.args[0].kind == "global":
+            return False
+        [local] = whole.args
+        alone = local.address.boxes if whole is not place else local.started == [local.loop]
+        return alone and value.type.node.how in HEAP
+
+    def record_lines(self, symbol):
+        kinds = [param.type.kind for param in symbol.params] + [symbol.type.to.kind]
+        self.refuse_if(kinds != ["ptr", "ptr"], f"thread function {symbol.name}, not of pointers", symbol.place)
+        argument, result = symbol.params[0].type, self.type_text(symbol.type.to.bare())
+        return RECORD.substitute(self.records[symbol], function=self.part_name(symbol), result=result,
+                                 argument=self.type_text(argument.bare()), none=self.null_text(argument.node))
+
+    def l_pthread_join(self, args):
+        thread, result = self.stable(self.value(args[0])), self.value(uncast(args[1]))
+        self.emit("join(%s);", thread)
+        if result.null():
+            return
+        place = self.stable_place(self.deref(result))
+        self.refuse_if(place.type.kind != "ptr", "result of a thread that is no pointer")
+        self.joins.append(place.type.node)
+        self.put(place, number(0))
+        self.later(lambda: " ".join(
+            RESULT.substitute(self.records[symbol], thread=self.text(thread), target=self.text(place),
+                              none=self.null_text(place.type.node))
+            for symbol in self.records if symbol.gives), place)
+
+    def l_pthread_exit(self, args):
+        """In main its end, else that of the thread function."""
+        if self.function.name == "main":
+            return self.emit("return 0;")
+        self.ends.append((self.function, self.here))
+        self.s_Return(A.Return(args[0]))

@@ -2,11 +2,8 @@
 
 Locks are compared by their text in C. A function begins with the locks that all its callers hold; what it locks and
 unlocks from then on is followed through its lines."""
-
 from collections import Counter, namedtuple
-
-from .names import in_c
-from .source import HEADERS
+from .source import HEADERS, in_c
 from .tree import PLACES, Expr
 
 # an access: where, whether it writes, whether a thread other than main may do it, and the locks, as a mark names them
@@ -40,10 +37,9 @@ class Locksets:
     def follow(self, lines, held):
         """The locks that are held after lines, or None where nothing is reached, of those that are held before."""
         for line in lines:
-            for at, part in enumerate(line.parts):
-                if isinstance(part, Expr):
-                    written = at == 0 and line.text.startswith("%s = ")
-                    self.event(part, line, written, held or frozenset())
+            for part in [part for part in line.parts if isinstance(part, Expr)]:
+                written = part is line.parts[0] and line.text.startswith("%s = ")
+                self.event(part, line, written, held or frozenset())
             ends = [self.follow(block, held) for block in line.blocks]
             reached = [end for end in ends if end is not None]
             held = frozenset.intersection(*reached) if reached else None if ends else held
@@ -84,7 +80,7 @@ class Locksets:
         if prefix is not None and text.startswith(prefix) and not set(text[len(prefix):]) & set(".->"):
             return text[len(prefix):]
         node, name = self.pointers.get(text, (None, None))
-        known = list(node.find().globals) if node else []
+        known = list(node.globals) if node else []
         if len(known) == 1 and len(known[0]) == 1 and known[0][0].type.kind == "struct":
             return f"{known[0][0].name}.{name}"
         return text if not set("[*>(") & set(text) and text.split(".")[0] in self.front.global_names else None
@@ -93,12 +89,12 @@ class Locksets:
         for name, accesses in sorted(self.accesses.items()):
             threads = [access for access in accesses.values() if access.thread]
             written = [access for access in accesses.values() if access.written]
-            if threads and written and not any(access.thread for access in written):
-                yield f"{name}: written by main alone ({in_lines(written)}), read by threads"
             counts = Counter(lock for access in threads for lock in access.locks)
             best = max(counts, key=lambda lock: (counts[lock], lock), default=None)
-            few = best is None or counts[best] < 0.6 * len(threads) and not 1 <= counts[best] == len(threads) - 1
-            if few or not any(access.thread for access in written):
+            by_main = not any(access.thread for access in written)
+            if threads and written and by_main:
+                yield f"{name}: written by main alone ({in_lines(written)}), read by threads"
+            if by_main or best is None or counts[best] < min(0.6 * len(threads), len(threads) - 1):
                 continue
             yield f"{name}: SHARC_LOCKED({best}), held at {counts[best]} of {len(threads)} accesses of threads"
             for access in [access for access in threads if best not in access.locks]:

@@ -1,47 +1,39 @@
 """The whole program as text: declarations, the objects that stand for arrays and for locals with an address, functions,
 and line markers so that each line is where it was in C."""
-
 import re
 from collections import ChainMap
 from itertools import accumulate
 from operator import itemgetter
-
 from pycparser import c_ast as A
-from .classes import named, roots, settle
-from .ctype import CHAR, UNKNOWN, Refusal, Type, array
+from .ctype import CHAR, UNKNOWN, Refusal, Type, array, named, roots, settle
 from .declare import Symbol
-from .names import Names, in_c
 from .places import Places
-from .source import HEADERS, texts
-from .tree import NOTHING, Expr, number
+from .source import HEADERS, in_c, texts
+from .tree import Expr, number
 
 class Front(Places):
-    def __init__(self, source, words):
-        self.source, self.user = source, Names()
-        self.arguments_given = [words.file, *words.arguments]
-        self.function, self.here = None, (words.file, 1)
-        self.scopes = ChainMap()
+    def __init__(self, source, words, user):
+        self.source, self.user, self.arguments_given = source, user, [words.file, *words.arguments]
+        self.function, self.here, self.scopes = None, (words.file, 1), ChainMap()
         self.globals, self.functions, self.structs, self.refusals, self.nodes = [], {}, {}, [], []
         self.firsts = []  # (class of &a[0], class of a): a pointer to the array, unless others of its elements have one
         self.tags, self.typedef_names = {}, {}  # by their nodes; in self.scopes they are with a blank before them
-        self.names = set(source.words)
-        self.lines, self.loops, self.notes, self.cells, self.own_names = [], [], [], 0, set()
+        self.lines, self.loops, self.notes, self.cells = [], [], [], 0
+        self.names, self.own_names, self.helpers, self.reads_strings = set(source.words), set(), set(), False
         self.pinned, self.bound = False, None  # in a function of the headers: the place of the call, and its argument
         self.out_names, self.text_pool, self.calls_by, self.groups = {}, {}, {}, {}
         self.numbers, self.records, self.joins, self.started, self.ends = {}, {}, [], [], []
-        self.reads_strings, self.helpers = False, set()
         # the variables whose address is taken
         self.addressed = set(re.findall(r"&(\w+)(?:\.\w+)*(?![\w.[]|->)", in_c(source.tree)))
         self.global_names = {item.name for item in source.tree.ext if isinstance(item, A.Decl)}
-        self.strings = self.declare("strings", "global", array(CHAR, 1), self.here)
-        self.strings.own = True
+        self.strings = self.declare("strings", "global", array(CHAR, 1), self.here, own=True)
         self.strings.out = self.fresh("strings")
         self.statements(source.tree.ext)
         if not getattr(self.functions.get("main"), "definition", None):
             self.report(Refusal(((words.file, 1), "program without main")))
         if self.refusals:
             raise Refusal(*self.refusals)
-        for symbol in dict.fromkeys(symbol for node in self.started for symbol in node.find().functions):
+        for symbol in dict.fromkeys(symbol for node in self.started for symbol in node.functions):
             names = ("record", "start", "take", "table")  # the struct, what is spawned, what takes the argument, starts
             self.records[symbol] = {name: self.own_name(f"{name}_{symbol.name}") for name in names}
             for node in self.joins if symbol.gives else []:
@@ -75,7 +67,7 @@ class Front(Places):
             name, made, part = self.part_name(*chain), "", chain[-1]
             kind = part.type if part is symbol else part.type.with_(mode=None)
             if symbol.apart or kind.kind == "array":
-                made = " " + self.new_object(name, kind.base(), number(kind.cells()), self.boxes(part.address))
+                made = " " + self.new_object(name, kind.base(), number(kind.cells()), part.address.boxes)
                 kind = Type("ptr", to=kind.base(), node=part.address)
             texts.append(f"{self.type_text(kind)} {name};{made}")
         return " ".join(texts)
@@ -89,7 +81,7 @@ class Front(Places):
         at = self.own_name("i") if not one and (boxes or arrays) else None
         made = self.new_object(f"{own}[{at}]", kind, number(1), False) if boxes else " ".join(
             self.new_object(f"{own}->{name}" if one else f"{own}[{at}].{name}", part.type.base(),
-                            number(part.type.cells()), self.boxes(part.address), " readonly") for name, part in arrays)
+                            number(part.type.cells()), part.address.boxes, " readonly") for name, part in arrays)
         if at:
             made = f"for (int {at} = 0; {at} < {self.text(length, 8)}; {at} = {at} + 1) {{ {made} }}"
         size = ("" if one else f"{self.text(length, 11)} * ") + f"sizeof({plain}{' *' * boxes})"
@@ -111,7 +103,7 @@ class Front(Places):
             if member.apart:
                 mode = member.type.mode or ("racy" if base.kind == "mutex" else "dynamic", None)
                 base = base if base.mode or base.atomic else base.with_(mode=mode)
-                stars = " * readonly" * (1 + self.boxes(member.address))
+                stars = " * readonly" * (1 + member.address.boxes)
             texts.append(f"{self.type_text(base, chain, False)}{stars} {self.part_name(*chain)};")
         return f"struct {self.part_name(struct)} {{ {' '.join(texts)} }};"
 
@@ -128,20 +120,19 @@ class Front(Places):
         return " ".join([*inner, f"{text} {name}{f' = {self.text(constant)}' if constant else ''};"])
 
     def program(self):
-        functions = {symbol: self.function_lines(symbol) for symbol in self.functions.values()
-                     if symbol.definition and not symbol.header}
-        functions[self.functions["main"]][1:1] = self.initialisers()
+        functions = {name: [*self.flat(symbol.lines)] for name, symbol in self.functions.items() if symbol.lines}
+        functions["main"][1:1] = self.initialisers()
         globals_ = [chain for symbol in self.globals if symbol.uses or not symbol.place[0].startswith(HEADERS)
                     for chain in symbol.leaves() if not {chain[:1], chain} & self.groups.keys()]
         globals_ += dict.fromkeys(group for group, _ in self.groups.values())
         globals_ = [self.written(chain[0].place, self.global_text, chain, chain[-1].type, chain) for chain in globals_]
-        globals_ += [self.written(self.here, self.record_lines, symbol) for symbol in self.records]
+        globals_ += [self.written(symbol.place, self.record_lines, symbol) for symbol in self.records]
         last = [self.written(place, self.dispatcher, *each) for *each, place in self.calls_by.values()]
         for symbol, place in self.ends:
             if symbol not in self.records or symbol.called:
                 self.report(Refusal((place, "pthread_exit outside a thread function")))
         if self.reads_strings:
-            globals_.append((self.here, f"char racy {self.strings.out}[{sum(map(len, self.text_pool))}];"))
+            globals_.append((self.strings.place, f"char racy {self.strings.out}[{sum(map(len, self.text_pool))}];"))
         structs = []
         while rest := [owner for owner, *path in self.out_names if owner.kind == "struct" and not path][len(structs):]:
             structs.append(self.written(rest[0].place, self.struct_text, rest[0]))  # may name others
@@ -183,8 +174,7 @@ class Front(Places):
 
     def shown(self, line):
         """A line with its parts as text."""
-        texts = [self.text(part) if isinstance(part, Expr) else part if isinstance(part, str) else self.type_text(part)
-                 for part in line.parts]
+        texts = [self.text(part) if isinstance(part, Expr) else self.type_text(part) for part in line.parts]
         return line.text % tuple(texts)
 
     def flat(self, lines):
@@ -200,15 +190,11 @@ class Front(Places):
             if line.blocks:
                 yield place, "}"
 
-    def function_lines(self, symbol):
-        body = [*self.flat(symbol.lines)]
-        return [self.written(symbol.place, self.heading, symbol), *body, (body[-1][0] if body else symbol.place, "}")]
-
     def heading(self, symbol):
         if symbol.name == "main":
-            return "int main(void) {"
+            return "int main(void)"
         texts = [f"{self.type_text(param.type)} {self.part_name(param)}" for param in symbol.params]
-        return f"{self.type_text(symbol.type.to)} {self.part_name(symbol)}({', '.join(texts) or 'void'}) {{"
+        return f"{self.type_text(symbol.type.to)} {self.part_name(symbol)}({', '.join(texts) or 'void'})"
 
     def initialisers(self):
         """What main does before everything else."""
@@ -219,15 +205,6 @@ class Front(Places):
                     self.notes.append((symbol.place, f"the initialiser of {symbol.name} is executed by main"))
         for at, byte in enumerate(b"".join(self.text_pool) if self.reads_strings else b""):
             yield self.functions["main"].place, f"{self.strings.out}[{at}] = {(byte ^ 128) - 128};" if byte else ""
-
-    def set_initialiser(self, symbol, values):
-        """The constants that parts of a global are declared with; main assigns the rest."""
-        for place, item in values:
-            lines, chain = self.captured(self.store, place, item)[0], place.chain()
-            value = lines[0].parts[-1] if len(lines) == 1 and lines[0].text == "%s = %s;" else NOTHING
-            if value.op == "number" and value.number > -(1 << 63) and chain:
-                symbol.constants.update({chain: value} if value.number else {})
-            symbol.rest += [(chain, lines)] if value is NOTHING or not value.null() else []
 
     def dispatcher(self, name, kind, root):
         """A function that calls one of several by its number."""

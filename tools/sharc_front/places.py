@@ -1,12 +1,8 @@
 """Names, places, values and types as text, when it is known how the pointers of each class are represented."""
-
 import re
 from functools import reduce
-
-from .classes import HEAP
-from .ctype import CELL
-from .names import packed
-from .threads import Threads
+from .ctype import CELL, HEAP
+from .library import Library
 from .tree import LEVELS, number, plus, times, variable
 
 # the words that the language has and C has not
@@ -20,13 +16,7 @@ class Spot:
     def __init__(self, chain=(), index=None, pointer=None, boxes=False):
         self.chain, self.index, self.pointer, self.boxes, self.inner = chain, index, pointer, boxes, ()
 
-class Places(Threads):
-    def how(self, node):
-        return node.representation(self.here)
-
-    def boxes(self, node):
-        return self.how(node) == "boxes"
-
+class Places(Library):
     def part_name(self, owner, *path):
         """The name in the text, none of SharC's words: for a variable or struct, or for a part of it."""
         if (owner, *path) not in self.out_names:
@@ -52,16 +42,13 @@ class Places(Threads):
 
     def spot(self, place):
         base, *rest = place.args
-        match place.op:
-            case "variable":
-                return self.entered(Spot(), base)
-            case "member":
-                return self.entered(self.spot(base), *rest)
-            case "element":
-                spot = self.spot(base)
-                spot.index = plus(spot.index, times(rest[0], place.type.cells()))
-                return spot
-        return self.pointed(base, rest[0], base.type.to)
+        if place.op == "at":
+            return self.pointed(base, *rest, base.type.to)
+        spot = Spot() if place.op == "variable" else self.spot(base)
+        if place.op != "element":
+            return self.entered(spot, place.args[-1])
+        spot.index = plus(spot.index, times(*rest, place.type.cells()))
+        return spot
 
     def entered(self, spot, symbol):
         """Where a member of the struct at a spot is; a variable is entered from nowhere."""
@@ -77,19 +64,18 @@ class Places(Threads):
             spot.inner = (*(spot.inner or [symbol.struct]), symbol)
             if apart and not spot.pointer:  # those of all elements are one after the other
                 return Spot((*spot.chain, *spot.inner[1:]), times(spot.index, symbol.type.cells()))
-        return Spot((), number(0), self.spot_text(spot), self.boxes(symbol.address)) if apart else spot
+        return Spot((), number(0), self.spot_text(spot), symbol.address.boxes) if apart else spot
 
     def pointed(self, pointer, index, kind):
         """Where the element `index` of what a pointer points to is."""
         node = self.class_of(pointer)
-        how = self.how(node)
-        if how in HEAP:
-            node.pointee_type(self.here)
-            return Spot((), times(index, kind.cells()), self.text(pointer), self.boxes(node))
-        self.refuse_if(how != "global", "use of a pointer that is always NULL or a number")
-        chain = next(iter(node.find().globals))
+        if node.how in HEAP:
+            node.pointee()  # it is of one type
+            return Spot((), times(index, kind.cells()), self.text(pointer), node.boxes)
+        self.refuse_if(node.how != "global", "use of a pointer that is always NULL or a number")
+        chain = next(iter(node.globals))
         self.reads_strings |= chain[0] is self.strings
-        kinds, moves = [symbol.type for symbol in chain], node.has("order")
+        kinds, moves = [symbol.type for symbol in chain], "order" in node.seen
         self.refuse_if(kinds[-1].base() != kind.base(), f"pointer to {kinds[-1].shown()} used for {kind.shown()}")
         in_array = any(part.kind == "array" for part in kinds)
         single = kinds[-1].kind != "array" and moves if in_array else not index.null() or moves and not pointer.place()
@@ -110,10 +96,9 @@ class Places(Threads):
             return name
         if spot.boxes:
             name, index = f"{name}[{self.text(index)}]", number(0)
-        if spot.inner:
-            first = spot.pointer and index.null()
-            return name + ("->" if first else f"[{self.text(index)}].") + self.part_name(*spot.inner)
-        return f"{name}[{self.text(index)}]"
+        if spot.inner and spot.pointer and index.null():
+            return f"{name}->{self.part_name(*spot.inner)}"
+        return f"{name}[{self.text(index)}]" + (f".{self.part_name(*spot.inner)}" if spot.inner else "")
 
     def text(self, value, level=0):
         """A value, in parentheses where it binds less than `level`."""
@@ -122,7 +107,7 @@ class Places(Threads):
             case "variable" | "member" | "element" | "at":
                 made = self.spot_text(self.spot(value))
                 if value.source is not None:
-                    self.user.lvalues[(self.here, packed(made))] = value.source
+                    self.user.lvalues[self.here, self.user.packed(made)] = value.source
             case "number":
                 made = f"{value.number}{'L' * value.wide}"
                 made, tight = made if value.number != -(1 << 63) else f"(-{(1 << 63) - 1}L - 1)", 12 - (made[0] == "-")
@@ -138,7 +123,7 @@ class Places(Threads):
                 made = args[0]()
             case "ordered":
                 made = self.text(args[0])
-                self.refuse_if(self.how(self.class_of(args[0])) != "global", "order of pointers to the heap or locals")
+                self.refuse_if(self.class_of(args[0]).how != "global", "order of pointers to the heap or locals")
             case _ if op in LEVELS:
                 tight = LEVELS[op]
                 made = f"{self.text(args[0], tight)} {op} {self.text(args[1], tight + 1)}"
@@ -148,12 +133,12 @@ class Places(Threads):
         return made if tight >= level else f"({made})"
 
     def null_text(self, node):
-        return "NULL" if self.how(node) in HEAP else "0"
+        return "NULL" if node.how in HEAP else "0"
 
     def pointer_text(self, value):
         place = value.args[0]
         is_array = place.type.kind == "array"
-        if self.how(self.class_of(value)) == "global":
+        if self.class_of(value).how == "global":
             return self.text(self.as_number(value), 12)
         spot = self.spot(place)
         self.refuse_if(spot.pointer is None or spot.inner or not spot.boxes and not spot.index.null(),
@@ -188,9 +173,9 @@ class Places(Threads):
         if kind.kind == "struct":
             self.refuse_if(not kind.struct.fields, f"struct {kind.name}, which is not defined")
             return "struct " + self.part_name(kind.struct) + mode
-        how = self.how(kind.node)
+        how = kind.node.how
         if how not in HEAP:
             return ("long" if how == "integer" else "int") + mode
-        known = kind.node.pointee_type(self.here)
+        known = kind.node.pointee()
         to = (kind.to if kind.to.kind != "void" else known.with_(mode=kind.to.mode)).base()
         return self.type_text(to, context, False) + " *" * (2 if how == "boxes" else 1) + mode

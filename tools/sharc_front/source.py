@@ -1,12 +1,10 @@
 """Reads a C file: gcc's preprocessor with the headers of this folder, then pycparser. What neither reads is refused."""
-
 import pathlib
 import re
 import subprocess
 import sys
-
 try:
-    from pycparser import c_parser
+    from pycparser import c_generator, c_parser
 except ImportError:
     sys.stderr.write("sharc-c needs pycparser: apt-get install python3-pycparser, or pip install pycparser\n")
     sys.exit(2)
@@ -25,6 +23,12 @@ ESCAPE = re.compile(r"\\(?:x([0-9a-fA-F]+)|([0-7]{1,3})|(.))")
 LETTERS = dict(zip("abfnrtve", b"\a\b\f\n\r\t\v\x1b"))
 HARMLESS = set("unused noreturn format const pure noinline always_inline cold hot malloc nonnull warn_unused_result "
                "used deprecated returns_nonnull flatten leaf nothrow fallthrough may_alias noclone alloc_size".split())
+
+GENERATOR = c_generator.CGenerator()
+
+def in_c(node):
+    """A part of the program as the user would write it."""
+    return " ".join(GENERATOR.visit(node).split())
 
 def texts(name):
     """The texts of a file of headers/ in the language of SharC."""

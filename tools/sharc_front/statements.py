@@ -1,19 +1,12 @@
 """Statements and functions, lowered to lines (C11 6.8, 6.9.1)."""
-
 from collections import ChainMap
-
 from pycparser import c_ast as A, c_parser
-from .classes import unify
-from .ctype import BAD, INT, UNKNOWN, VOID, promoted
+from .ctype import BAD, INT, UNKNOWN, VOID, promoted, unify
 from .declare import Symbol, place_of
 from .express import Expressions, Line, uncast
 from .locks import spelled
-from .names import in_c
-from .source import HEADERS
-from .tree import Expr, binary, convert, joined, number, variable
-
-# the parameters of main: how many words there are, and the words
-ARGUMENTS = "void main(void) {{ int {} = {}; char *{}[] = {{ {} 0 }}; }}"
+from .source import HEADERS, in_c
+from .tree import NOTHING, Expr, binary, convert, joined, number, variable
 
 def items_of(node):
     """The statements of a block, or the one that stands for a block."""
@@ -25,10 +18,8 @@ class Statements(Expressions):
         for node in nodes:
             self.here = self.here if self.pinned else place_of(node, self.here)
             try:
-                if isinstance(node, (A.Decl, A.DeclList, A.Typedef, A.FuncDef)):
-                    self.lowered(node)
-                else:
-                    self.blocked(self.lowered, node)
+                declares = isinstance(node, (A.Decl, A.Typedef, A.FuncDef))
+                self.lowered(node) if declares else self.blocked(self.lowered, node)
             except UNKNOWN as error:
                 self.report(error, f"`{in_c(node)[:60]}`, of a form that the front does not know")
                 if isinstance(node, (A.Decl, A.Typedef)) and node.name:
@@ -54,13 +45,12 @@ class Statements(Expressions):
     def lowered(self, node):
         """A statement of few lines; of others there is a method each."""
         match node:
-            case A.Compound() | A.DeclList():
+            case A.Compound():
                 self.statements(items_of(node))
             case A.EmptyStatement() | A.StaticAssert():
                 pass
             case A.If():
-                test = self.value(node.cond)
-                self.branch(test, self.body(node.iftrue), self.body(node.iffalse))
+                self.branch(self.value(node.cond), self.body(node.iftrue), self.body(node.iffalse))
             case A.While() | A.DoWhile():
                 self.loop(node.cond, [], node.stmt, ends=isinstance(node, A.DoWhile))
             case A.For():
@@ -78,7 +68,13 @@ class Statements(Expressions):
         symbol, init = self.variable(node, "local" if self.function else "global"), uncast(node.init)
         values = self.scalars(variable(symbol), [node.init]) if init is not None else ()
         if symbol.kind == "global":
-            return self.set_initialiser(symbol, values)
+            for place, item in values:  # its declaration has constants, main assigns the rest
+                lines, chain = self.captured(self.store, place, item)[0], place.chain()
+                value = lines[0].parts[-1] if len(lines) == 1 and lines[0].text == "%s = %s;" else NOTHING
+                if value.op == "number" and value.number > -(1 << 63) and chain:
+                    symbol.constants.update({chain: value} if value.number else {})
+                symbol.rest += [(chain, lines)] if value is NOTHING or not value.null() else []
+            return
         self.declare_local(symbol, values)
         param = self.scopes.get(init.name) if isinstance(init, A.ID) else None
         if param in self.function.params and not self.loops and symbol.type.kind == param.type.kind == "ptr":
@@ -131,7 +127,7 @@ class Statements(Expressions):
         for chosen, case in enumerate(cases):
             if isinstance(case, A.Case):
                 label = number(self.constant(case.expr), kind)
-                self.emit(f"if (%s) %s = {chosen};", binary("==", value, label, kind), at)
+                self.emit(f"if (%s) %s = {chosen};", binary("==", value, label), at)
             self.refuse_if(any(isinstance(part, (A.Decl, A.DeclList)) for part in case.stmts) and
                            chosen + 1 < len(cases), "declaration in a case that is not the last, outside a block")
             reached = A.BinaryOp("<=", A.ID(at.args[0].out), A.Constant("int", str(chosen)))
@@ -165,7 +161,7 @@ class Statements(Expressions):
         if symbol.definition is None:
             symbol.type, names = kind, [param.name for param in decl.type.args.params] if kind.params else []
             symbol.params = [self.declare(name or "unnamed", "param", param, decl)
-                             for name, param in zip(names, kind.params or ())]
+                             for name, param in zip(names, kind.params)]
         return symbol
 
     def s_FuncDef(self, item):
@@ -175,7 +171,9 @@ class Statements(Expressions):
         symbol.definition, symbol.header = item, place_of(item.decl)[0].startswith(HEADERS)
         if not symbol.header:
             self.function, self.loops, self.here, self.own_names = symbol, [], symbol.place, set()
-            symbol.lines = self.captured(self.function_body, symbol, inner=True)[0]
+            body = self.captured(self.function_body, symbol, inner=True)[0]
+            heading = Expr("text", (lambda: self.heading(symbol),), VOID)
+            symbol.lines = [Line(symbol.place, "%s", (heading,), blocks=(body,))]
             self.refuse_if(len(self.own_names) > 200, f"function {symbol.name} with over 200 variables", symbol.place)
             self.function = None
 
@@ -184,9 +182,9 @@ class Statements(Expressions):
         params = symbol.params
         if symbol.name == "main":
             words = ["".join(f"\\{byte:03o}" for byte in word.encode()) for word in self.arguments_given]
-            names = [param.name for param in params] + ["argc", "argv"][len(params):]
-            text = ARGUMENTS.format(names[0], len(words), names[1], "".join(f'"{word}", ' for word in words))
-            self.statements(c_parser.CParser().parse(text).ext[0].body.block_items[: len(params)])
+            values = (f"int %s = {len(words)};", "char *%s[] = { " + "".join(f'"{word}", ' for word in words) + "0 };")
+            text = " ".join(value % param.name for value, param in zip(values, params))
+            self.statements(c_parser.CParser().parse(f"void main(void) {{ {text} }}").ext[0].body.block_items or [])
         for param in params if symbol.name != "main" else []:
             self.scopes[param.name] = param
             self.declare_local(param)

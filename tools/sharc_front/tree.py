@@ -2,11 +2,9 @@
 
 SharC has no unsigned types: an unsigned value of less than 64 bits is masked after what can leave its range; one of 64
 bits is held by its bits, and functions of headers/arithmetic.sharc compare, multiply and divide it."""
-
 import operator
 from dataclasses import dataclass, replace
-
-from .ctype import BITS, CELL, UNSIGNED, VOID, Type, limits
+from .ctype import BITS, CELL, UNSIGNED, VOID, Type, limits, promoted, usual
 
 LEVELS = {"||": 1, "&&": 2, "|": 3, "^": 4, "&": 5, "==": 6, "!=": 6, "<": 7, ">": 7, "<=": 7, ">=": 7, "<<": 8,
           ">>": 8, "+": 9, "-": 9, "*": 10, "/": 10, "%": 10}
@@ -18,8 +16,10 @@ FOLDED = {"+": operator.add, "-": operator.sub, "*": operator.mul, "&": operator
           "/": lambda a, b: abs(a) // abs(b) * (1 if (a < 0) == (b < 0) else -1),
           "%": lambda a, b: abs(a) % abs(b) * (1 if a >= 0 else -1)}
 TRUTHS = (*COMPARED, "&&", "||", "!")
-NAMES64 = {"+": "__sharc_sum64", "-": "__sharc_difference64", "*": "__sharc_product64", "/": "__sharc_quotient64",
-           "%": "__sharc_remainder64", "<<": "__sharc_left64", ">>": "__sharc_right64"}
+# the functions of headers/arithmetic.sharc in place of operators
+FUNCTIONS = {("uint", "*"): "__sharc_product32", **{("ulong", op): f"__sharc_{name}64" for op, name in {
+    "+": "sum", "-": "difference", "*": "product", "/": "quotient", "%": "remainder", "<<": "left", ">>": "right",
+    "<": "below", ">": "above", "<=": "most", ">=": "least"}.items()}}
 
 @dataclass(eq=False)
 class Expr:
@@ -41,7 +41,7 @@ class Expr:
 
     def __post_init__(self):
         if self.wide is None:
-            self.wide = self.op in (*PLACES, "call") and self.type.wide()
+            self.wide = self.op in (*PLACES, "call") and CELL.get(self.type.name) == "long"
         if self.op in PLACES:
             self.height = 1 if self.op == "variable" and not self.args[0].shared else 3
         self.calls = self.op in ("call", "scast") or any(arg.calls for arg in self.args if isinstance(arg, Expr))
@@ -91,7 +91,7 @@ def number(value, name="int"):
 def joined(op, name, *values):
     """A value of the C type `name`: an operator of SharC, or a function of headers/arithmetic.sharc, on others."""
     operands = values[:1] if op in ("<<", ">>") else () if op in TRUTHS else values
-    wide = Type("int", name).wide() if op.startswith("__sharc_") else any(value.wide for value in operands)
+    wide = CELL[name] == "long" if op.startswith("__sharc_") else any(value.wide for value in operands)
     return Expr(op, values, Type("int", name), wide=wide, height=1 + max(value.height for value in values))
 
 def convert(value, name):
@@ -115,27 +115,22 @@ def folded(op, left, right, name):
         return number(int(value))
     return number(value, name) if op == "<<" or name in UNSIGNED or low <= value <= high else None
 
-def binary(op, left, right, name):
-    """left op right in the C type `name`, to which both operands are converted (the left one alone for shifts)."""
-    below = all(side.number >= 0 if side.number is not None else side.type.name in UNSIGNED - {"ulong"}
+def binary(op, left, right, name=None):
+    """left op right in the C type `name`, or in that of C11 6.5, to which both are converted, of a shift the left."""
+    name = name or (promoted(left.type) if op in ("<<", ">>") else usual(left.type, right.type))
+    small = all(side.number >= 0 if side.number is not None else side.type.name in UNSIGNED - {"ulong"}
                 for side in (left, right))  # whether both as an unsigned long are less than 2^63
     left, right = convert(left, name), right if op in ("<<", ">>") else convert(right, name)
     value = folded(op, left, right, name) if None not in (left.number, right.number) else None
-    if value is not None or op in COMPARED:
-        return value or compared(op, left, right, name == "ulong" and not below)
-    small = op in ("+", "-") and right.number is not None and abs(right.number) <= 65536
-    if name == "ulong" and op in NAMES64 and not small or name == "uint" and op == "*":
-        return joined("__sharc_product32" if name == "uint" else NAMES64[op], name, left, right)
+    if value is not None:
+        return value
+    step = op in ("+", "-") and right.number is not None and abs(right.number) <= 65536
+    function = FUNCTIONS.get((name, op)) if not (small if op in COMPARED else step) else None
+    if function or op in COMPARED:
+        return joined(function or op, "int" if op in COMPARED else name, left, right)
     if name != "int" and op not in ("&", "|", "^") and not joined(op, name, left, right).wide:
         left = joined("+", name, left, number(0, "long"))  # of type long in the text
     return convert(joined(op, "long" if name == "uint" and op in ("+", "-", "<<") else name, left, right), name)
-
-def compared(op, left, right, by_bits):
-    """`by_bits`: one of them may be an unsigned long of 2^63 or more."""
-    if op in ("==", "!=") or not by_bits:
-        return joined(op, "int", left, right)
-    less = joined("__sharc_below64", "int", *((right, left) if op in (">", "<=") else (left, right)))
-    return less if op in ("<", ">") else joined("!", "int", less)
 
 def plus(left, right):
     """left + right, for indices."""
@@ -148,6 +143,5 @@ def plus(left, right):
     return left if right.null() else joined("-" if right.number < 0 else "+", "long", left, number(abs(right.number)))
 
 def times(value, by):
-    if by == 1 or value.number is not None:
-        return value if by == 1 else number(value.number * by)
-    return joined("*", "long", value, number(by))
+    made = joined("*", "long", value, number(by)) if value.number is None else number(value.number * by)
+    return value if by == 1 else made

@@ -1,5 +1,5 @@
 -- Calls of the program's functions.
-use Rattle.sharc_accepted_laws.proofs.{Imports.{◌≡◌, ℕ, zero, suc, ◌+◌, ◌≤◌, nat_lt, ltb-true, ltb-false, Bool, true, false, cond, List, [], ◌∷◌, refl, ap, sym, ◌∙◌, subst, arith, Option, Some, None, IsSomeAnd, Contains, Span, Identifier, in_function, Expression, Arguments, call, Function, Named, is_integer, is_null, declared_kind, declared_kinds, Code, GlobalCells, Width, of_all, Names, runs, Runs, Resolution, named_at, functions_in, function_at, parameters_of, parameters_named, HaveTypes, is_reference, Assignment, IsFunction, IsCall, called, kind_of, is_ref, parameters_scope, context_in, width_of, Context, int_count, ref_count, ArgumentsSuit, StaticType, Empty, Refers, Anything, Within, Label, Signature, LessNumber, Narrower, Passes, Setting, type_by, ArgumentsAt, AreFree, refs_behind, IsTypeIn, ResultTyped, CallTyped, IsOf, AreStanding, IsAccepted, result_type, variable_entry, wants_of, typing, function_signature, signature_by, setting_of, IsSet, head_there, none_there, place_there, left_there, right_there}, Arguments.{AllGo, all_go, refs_counted, integer_passed, parameters_declared}, Facts.{Laws, expression_of, is_at, has_type}, Forms.{reference_pointer, call_typed, function_parameters}}
+use Rattle.sharc_accepted_laws.proofs.{Imports.{◌≡◌, ℕ, zero, suc, ◌+◌, ◌≤◌, nat_lt, ltb-true, ltb-false, Bool, true, false, cond, List, [], ◌∷◌, refl, ap, sym, ◌∙◌, subst, arith, Option, Some, None, IsSomeAnd, Contains, Span, Identifier, in_function, Expression, Arguments, call, Function, Named, is_integer, is_null, declared_kind, declared_kinds, Code, GlobalCells, Width, of_all, Names, runs, Runs, named_at, functions_in, function_at, parameters_of, parameters_named, HaveTypes, is_reference, Assignment, IsFunction, IsCall, called, kind_of, is_ref, parameters_scope, context_in, width_of, Context, int_count, ref_count, ArgumentsSuit, StaticType, Empty, Refers, Anything, Within, Label, Signature, LessNumber, Narrower, Passes, Setting, type_by, ArgumentsAt, AreFree, refs_behind, IsTypeIn, ResultTyped, CallTyped, IsOf, AreStanding, IsAccepted, result_type, variable_entry, wants_of, typing, function_signature, signature_by, setting_of, IsSet, head_there, none_there, place_there, left_there, right_there}, Arguments.{AllGo, all_go, refs_counted, integer_passed, parameters_declared}, Facts.{Laws, expression_of, is_at, has_type}, Forms.{reference_pointer, call_typed, function_parameters}}
 use Rattle.sharc_typed_laws.specs.Places.{IsPlain}
 
 pub narrower_same : (w : Width) → Narrower w w
@@ -18,11 +18,8 @@ alone_is m globals b None = refl
 alone_is m globals b (Some f) = refl
 
 module _ (laws : Laws) (c : Context) (code : Code) (alone : ℕ → Bool) (lines : ℕ) (set : IsSet c.program c.globals code alone) (n : ℕ) (g : Function) where
-  abbrev m : Assignment
-  m = c.program
-
-  abbrev r : Resolution
-  r = c.program.typed
+  open c use {program as m}
+  open c.program use {typed as r}
 
   abbrev z : Setting
   z = setting_of c.program c.globals code alone lines

@@ -1,5 +1,5 @@
 -- Calls of `wait`, `signal` and `broadcast`.
-use Rattle.sharc_accepted_laws.proofs.{Imports.{◌≡◌, inl, inr, ℕ, zero, suc, Bool, true, false, List, [], ◌∷◌, ◌++◌, refl, ap, sym, ◌∙◌, subst, Some, bytes_eq, codes, if◌then◌else◌, false≢true, Span, Identifier, expressions, in_arguments, Expression, call, Arguments, no_arguments, argument, Function, Base, Named, Wait, Signal, Broadcast, Kind, object, null, is_pointer, condition_pointer, mutex_pointer, Code, Resolution, named_at, function_at, kind_at, HasType, HaveTypes, none_left, one_more, Callee, of_program, of_conditions, Assignable, integer, pointer, null_pointer, is_reference, Assignment, kind_of, is_ref, Context, Either, ReferencesSuit, StaticType, Content, MutexWord, Waiters, SomeNames, Setting, type_by, GoesTo, FirstCell, IsTypeIn, IsVoid, Goes, AreTwo, IsOne, AreTypable, ConditionTyped, CallTypable, IsOf, entry_by, entry_of, typing, HasFirst, ConditionsTyped, setting_of, IsSet}, Arguments.{Parts, part_of, first_part, second_part, AllSuit, AllGo}, Facts.{Laws, has_type, pointer_of}, Forms.{call_typed, reference_scalar}, Given.null_modes}
+use Rattle.sharc_accepted_laws.proofs.{Imports.{◌≡◌, inl, inr, ℕ, zero, suc, Bool, true, false, List, [], ◌∷◌, ◌++◌, refl, ap, sym, ◌∙◌, subst, Some, bytes_eq, codes, if◌then◌else◌, false≢true, Span, Identifier, expressions, in_arguments, Expression, call, Arguments, no_arguments, argument, Function, Base, Named, Wait, Signal, Broadcast, Kind, object, null, is_pointer, condition_pointer, mutex_pointer, Code, named_at, function_at, kind_at, HasType, HaveTypes, none_left, one_more, Callee, of_program, of_conditions, Assignable, integer, pointer, null_pointer, is_reference, kind_of, is_ref, Context, Either, ReferencesSuit, StaticType, Content, MutexWord, Waiters, SomeNames, Setting, type_by, GoesTo, FirstCell, IsTypeIn, IsVoid, Goes, AreTwo, IsOne, AreTypable, ConditionTyped, CallTypable, IsOf, entry_by, entry_of, typing, HasFirst, ConditionsTyped, setting_of, IsSet}, Arguments.{Parts, part_of, first_part, second_part, AllSuit, AllGo}, Facts.{Laws, has_type, pointer_of}, Forms.{call_typed, reference_scalar}, Given.null_modes}
 
 -- ---- types of arguments, the first and the second
 abbrev pub two_types : StaticType → StaticType → ℕ → StaticType
@@ -7,11 +7,8 @@ two_types s t zero = s
 two_types s t (suc n) = t
 
 module _ (laws : Laws) (c : Context) (code : Code) (alone : ℕ → Bool) (lines : ℕ) (set : IsSet c.program c.globals code alone) (n : ℕ) (g : Function) (cells : ConditionsTyped (setting_of c.program c.globals code alone lines) c n g) where
-  abbrev m : Assignment
-  m = c.program
-
-  abbrev r : Resolution
-  r = c.program.typed
+  open c use {program as m}
+  open c.program use {typed as r}
 
   abbrev z : Setting
   z = setting_of c.program c.globals code alone lines

@@ -1,5 +1,5 @@
 -- Lock paths lead through variables that are held: constant ones, by M4, of which nothing takes the reference, by M10.
-use Rattle.sharc_accepted_laws.proofs.{Imports.{◌≡◌, inl, inr, ℕ, ◌<◌, ◌==◌, Bool, true, false, cond, ◌&&◌, ◌||◌, not, List, [], ◌∷◌, refl, ap, sym, ◌∙◌, subst, option_to_list, eqb-true, Option, Some, None, is_some, Contains, false≢true, and_from, constant_not, AllByRecursion, list_any, Locked, Path, Span, Identifier, FieldOperator, Free, without_parentheses, expressions, in_function, Expression, Right, Named, Entity, Numbered, is_among, is_assigned_by, is_assigned_in, is_assigned, is_constant, Resolution, named_at, functions_in, lvalue, function_transfers, variables, variable_of, Assignment, taken_variable, written, base_use, path_variable, declared_row, modes_of, modes_at, Lock, Sharing, locked, lock_of, variable_named, object_named, object_of, text_at, IsExpression, IsEntity, IsTaken, cast_away, freed, IsAssigned, RulesAreMet, IsAllowed, through_constant, IsThroughConstant, is_through as through, IsSiblingUse, IsNamedByPath, is_written, is_made, Context, slot_kind, ref_count, PathNamed, SomeNames, IsAccepted, taken_by, is_taken, is_held, held_named, held_at, IsHeldPath, AllHeld, AssignedIsNotHeld, TakenIsNotHeld, HeldLaws, AllStand, register, lock_named, locks_at, eqb_same as same_itself, same_some, none_some, each, place_of_element}, StaticLists.{passes_there, passes_by}, Origins.{is_use, Of, found_named, expression_of}, StaticRegisters.{register_at, register_low}}
+use Rattle.sharc_accepted_laws.proofs.{Imports.{◌≡◌, inl, inr, ℕ, ◌<◌, ◌==◌, Bool, true, false, cond, ◌&&◌, ◌||◌, not, List, [], ◌∷◌, refl, ap, sym, ◌∙◌, subst, option_to_list, eqb-true, Option, Some, None, is_some, Contains, false≢true, and_from, constant_not, AllByRecursion, list_any, Locked, Path, Span, Identifier, FieldOperator, Free, without_parentheses, expressions, in_function, Expression, Right, Named, Entity, Numbered, is_among, is_assigned_by, is_assigned_in, is_assigned, is_constant, Resolution, named_at, functions_in, lvalue, function_transfers, variables, variable_of, Assignment, taken_variable, written, base_use, path_variable, declared_row, modes_of, modes_at, Lock, Sharing, locked, lock_of, variable_named, object_named, object_of, text_at, IsExpression, IsEntity, IsTaken, cast_away, freed, IsAssigned, RulesAreMet, IsAllowed, through_constant, IsThroughConstant, is_through as through, IsSiblingUse, IsNamedByPath, is_written, is_made, Context, slot_kind, ref_count, PathNamed, SomeNames, IsAccepted, taken_by, is_taken, is_held, held_named, held_at, IsHeldPath, AllHeld, AssignedIsNotHeld, TakenIsNotHeld, HeldLaws, AllStand, register, lock_named, locks_at, eqb_same as same_itself, same_some, none_some, each, place_of_element, passes_there, passes_by}, Origins.{is_use, Of, found_named, expression_of}, StaticRegisters.{register_at, register_low}}
 use Rattle.sharc_tree.specs.Tree as tree
 use Rattle.sharc_invariant.specs.Types.{Names}
 

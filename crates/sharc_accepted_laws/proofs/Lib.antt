@@ -68,7 +68,6 @@ pub mod Standing
 pub mod Starts
 pub mod Stated
 pub mod StaticLeading
-pub mod StaticLists
 pub mod StaticRegisters
 pub mod StaticSiblings
 pub mod StaticStarts

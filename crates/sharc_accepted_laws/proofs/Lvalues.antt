@@ -186,21 +186,26 @@ module _ (m : Assignment) (ready : AreReady m) where
         };
       }
 
+  -- a cell behind a pointer, by the fields of what that points to
+  behind_at : (e p : Expression) (b : Base) (k n : ℕ) (list : List Field) → pointer_of r e ≡ Some p → IsExpression m p → (w : IsPointee p b k) → (row_of (targets_of m) (number m (expression_shape m p w.row))).fields ≡ list → n < length list
+      → FieldFits m e n (modes_of m w.row) (slice_index_or list n no_field) → IsBehindPointer m e n
+  behind_at e p b k n list leads stands w fields inside fits = record {
+    pointer = p;
+    leads = leads;
+    stands = stands;
+    row = w.row;
+    row_is = w.row_found;
+    some = w.some;
+    inside = subst (λ l. n < length l) (sym fields) inside;
+    fits = subst (λ l. FieldFits m e n (modes_of m w.row) (slice_index_or l n no_field)) (sym fields) fits;
+  }
+
   behind_scalar : (e p : Expression) (b : Base) (n : ℕ) → kind_at r e ≡ object b n → (n ≡ 0 → is_struct_base b ≡ false) → pointer_of r e ≡ Some p → IsExpression m p → (w : IsPointee p b n) → row_at r e ≡ Some (deeper w.row) → cell_at m e ≡ pointed m (Some w.row)
       → cell_locks m e ≡ locks_below (modes_at m p) → IsBehindPointer m e 0
   behind_scalar e p b n kind plain leads stands w at cell told =
       let s = scalar e b n w.first w.below kind plain w.many (deeper w.row) at w.deep (cell ∙ w.points)
       (told ∙ ap (λ o. locks_below (option_map (modes_of m) o)) w.row_found ∙ ap (λ l. below_locks (map form_of l)) w.modes) in
-      record {
-        pointer = p;
-        leads = leads;
-        stands = stands;
-        row = w.row;
-        row_is = w.row_found;
-        some = w.some;
-        inside = subst (λ l. 0 < length l) (sym w.fields) s.inside;
-        fits = subst (λ l. FieldFits m e 0 (modes_of m w.row) (slice_index_or l 0 no_field)) (sym w.fields) (subst (λ modes. FieldFits m e 0 modes (slice_index_or (Fields w.first w.below b) 0 no_field)) (sym w.modes) s.fits);
-      }
+      behind_at e p b n 0 (Fields w.first w.below b) leads stands w w.fields s.inside (subst (λ modes. FieldFits m e 0 modes (slice_index_or (Fields w.first w.below b) 0 no_field)) (sym w.modes) s.fits)
 
   -- ---- a global that is no struct
   file_scalar : (e : Expression) (g : ℕ) (d : GlobalDefinition) (b : Base) (n : ℕ) → kind_at r e ≡ object b n → (n ≡ 0 → is_struct_base b ≡ false) → declared_kind d.declaration.written ≡ object b n → global_at r g ≡ Some d
@@ -291,18 +296,8 @@ module _ (m : Assignment) (ready : AreReady m) where
       let n = field_place r d.name.site.token in
       let fits : FieldFits m e n (w.first ∷ w.below) (member m (own_mode (form_of w.first)) n d) =
       member_fits e n (w.first ∷ w.below) w.first (own_mode (form_of w.first)) s d how (ready.struct_found x s struct) member_is kind row (cell ∙ ap (λ q. field_cell r q d.written) w.points) (own_fits r n w.first w.below) (private_both w.first) told in
-      record {
-        pointer = p;
-        leads = leads;
-        stands = stands;
-        row = w.row;
-        row_is = w.row_found;
-        some = w.some;
-        inside = subst (λ l. n < length l) (sym fields) at.inside;
-        fits = subst (λ l. FieldFits m e n (modes_of m w.row) (slice_index_or l n no_field)) (sym fields)
-            (subst (λ modes. FieldFits m e n modes (slice_index_or (base_fields m (own_mode (form_of w.first)) (Base.Struct x)) n no_field)) (sym w.modes)
-            (subst (FieldFits m e n (w.first ∷ w.below)) (sym at.at) fits));
-      }
+      behind_at e p (Base.Struct x) 0 n (base_fields m (own_mode (form_of w.first)) (Base.Struct x)) leads stands w fields at.inside
+      (subst (λ modes. FieldFits m e n modes (slice_index_or (base_fields m (own_mode (form_of w.first)) (Base.Struct x)) n no_field)) (sym w.modes) (subst (FieldFits m e n (w.first ∷ w.below)) (sym at.at) fits))
 
   -- of an element of a global
   file_member : (e : Expression) (g : ℕ) (f : GlobalDefinition) (x : List ℕ) (s : StructDefinition) (d : Declaration) (how : PathReading) → global_at r g ≡ Some f → declared_kind f.declaration.written ≡ object (Base.Struct x) 0 → struct_named (structs_in r.program.items) x ≡ Some s

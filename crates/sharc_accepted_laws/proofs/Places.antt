@@ -1,5 +1,5 @@
 -- What the lock paths of types lead through stands where the types are used: rows and expressions.
-use Rattle.sharc_accepted_laws.proofs.{Imports.{◌≡◌, ◌⊎◌, inl, inr, ℕ, zero, suc, Bool, true, false, cond, List, [], ◌∷◌, map, refl, ap, sym, ◌∙◌, subst, arith, lt-ltb, slice_get, option_map, bytes_eq, Option, Some, None, false≢true, AllByRecursion, Base, Mode, Locked, Path, One, Through, Span, Declaration, Identifier, FieldOperator, GlobalDefinition, StructDefinition, expressions, in_arguments, Expression, Arguments, no_arguments, argument, Function, Item, structure, global, function, Named, Scope, Kind, object, is_pointer, Entry, Meaning, field_of, look_up, named_of, Role, Entity, Numbered, declared, cast_entity, casts, result_of, function_entities, entities_in, numbered, is_told_by, entity_at, Resolution, named_at, declaration_at, global_at, function_at, globals_in, functions_in, structs_in, kind_at, variable_kind, HasType, IsMemberOf, struct_named, a_variable, a_global, a_function, a_field, a_field_behind, IsFound, NamesFound, meaning_token, IsVariableIn, IsAmong, LevelStands, TypeStands, CastStands, file_types, Placing, at, IsNamedLevel, IsNamedType, IsLeastAssignment, Assignment, PathReading, written, through, Targets, is_constant_named, constant_use, base_use, read, entity_row, global_row, named_row, result_row, called_row, reading_through, row_at, modes_of, locked, lock_of, sharing_of, text_at, is_sibling_lock, IsEntity, Context, slot_kind, PathNamed, PathStands, IfThere, AllStand, DeclaredStands, ExpressionStands, ExpressionsStand, same_some, none_some, front, back, both}, Origins.reading_kept, RowModes.{RowHolds, rows_hold}, Passed.{first_kind, same_token, same_path}, Written.{raw, row_good, found_there}, Members.first_of}
+use Rattle.sharc_accepted_laws.proofs.{Imports.{◌≡◌, ◌⊎◌, inl, inr, ℕ, zero, suc, Bool, true, false, cond, List, [], ◌∷◌, map, refl, ap, sym, ◌∙◌, subst, arith, lt-ltb, slice_get, option_map, bytes_eq, Option, Some, None, false≢true, AllByRecursion, Base, Mode, Locked, Path, One, Through, Span, Declaration, Identifier, FieldOperator, GlobalDefinition, StructDefinition, expressions, in_arguments, Expression, Arguments, no_arguments, argument, Function, Item, structure, global, function, Named, Scope, Kind, object, is_pointer, Entry, Meaning, field_of, look_up, named_of, Role, Entity, Numbered, declared, cast_entity, result_of, function_entities, entities_in, numbered, is_told_by, entity_at, Resolution, named_at, declaration_at, global_at, function_at, globals_in, functions_in, structs_in, kind_at, variable_kind, HasType, IsMemberOf, struct_named, a_variable, a_global, a_function, a_field, a_field_behind, IsFound, NamesFound, meaning_token, IsVariableIn, IsAmong, LevelStands, TypeStands, CastStands, file_types, Placing, at, IsNamedLevel, IsNamedType, IsLeastAssignment, Assignment, PathReading, written, through, Targets, is_constant_named, constant_use, base_use, read, entity_row, global_row, named_row, result_row, called_row, reading_through, row_at, modes_of, locked, lock_of, sharing_of, text_at, is_sibling_lock, IsEntity, Context, slot_kind, PathNamed, PathStands, IfThere, AllStand, DeclaredStands, ExpressionStands, ExpressionsStand, same_some, none_some, front, back, both, CastFound}, Origins.reading_kept, RowModes.{RowHolds, rows_hold}, Passed.{first_kind, same_token, same_path}, Written.{raw, row_good, found_there}, Members.first_of}
 use Rattle.sharc_tree.specs.Tree as tree
 use Rattle.sharc_names.specs.Names as meaning
 
@@ -287,15 +287,6 @@ module _ (c : Context) (least : IsLeastAssignment c.program) (file : FileKnown c
     arguments_stand (argument a rest) h = both G (expressions a) (in_arguments rest) (all_stand a (front (Seen r2 scope) (expressions a) (in_arguments rest) h)) (arguments_stand rest (back (Seen r2 scope) (expressions a) (in_arguments rest) h))
 
 -- ---- from what the laws say of the places
-abbrev pub CastFound : Resolution → Expression → Type 0
-CastFound r (tree.cast s t a) = IsFound r (cast_entity s t)
-CastFound r _ = Unit {0}
-
-pub casts_found : (r : Resolution) (list : List Expression) → AllByRecursion (IsFound r) (casts list) → AllByRecursion (CastFound r) list
-casts_found r [] h = tt
-casts_found r (tree.cast s t a ∷ rest) h = (h.0, casts_found r rest h.1)
-casts_found r (_ ∷ rest) h = (tt, casts_found r rest h)
-
 cast_in : (r : Resolution) (names : List Entry) (e : Expression) → CastStands r names e → CastFound r e → CastIn r names e
 cast_in r names (tree.cast s t a) h f = (f, h)
 cast_in r names _ h f = tt

@@ -1,20 +1,10 @@
 -- What is settled at the positions of a type: where a level is racy or private.
-use Rattle.sharc_accepted_laws.proofs.Imports.{◌≡◌, ◌⊎◌, inl, inr, ⊎_elim, ℕ, zero, suc, ◌+◌, ◌-◌, ◌<◌, ◌≤◌, Bool, true, false, cond, List, [], ◌∷◌, ◌++◌, length, drop, get_or as slice_index_or, refl, ap, sym, ◌∙◌, subst, arith, Option, Some, None, Contains, false≢true, slice_get, option_or, Base, Mode, Private, Racy, Dynamic, Role, Entity, Numbered, entities_in, numbered_from, positions_of, positions_in, written_modes, NodeFinding, Apart, finding_at, IsLeastAssignment, mode_found, Assignment, is_mutex, settled, field_target, otherwise_of, settled_modes, settled_in, settled_at, same_some, none_some, head_or_tail, none_there}
+use Rattle.sharc_accepted_laws.proofs.Imports.{◌≡◌, ◌⊎◌, inl, inr, ⊎_elim, ℕ, zero, suc, ◌+◌, ◌-◌, ◌<◌, ◌≤◌, Bool, true, false, cond, List, [], ◌∷◌, ◌++◌, length, drop, get_or as slice_index_or, refl, ap, sym, ◌∙◌, subst, arith, Option, Some, None, Contains, false≢true, slice_get, option_or, Base, Mode, Private, Racy, Dynamic, Role, Entity, Numbered, entities_in, numbered_from, positions_of, positions_in, written_modes, NodeFinding, Apart, finding_at, IsLeastAssignment, mode_found, Assignment, is_mutex, settled, field_target, otherwise_of, settled_modes, settled_in, settled_at, same_some, none_some, head_or_tail, none_there, get_or_append_left, get_or-append-add}
 
 -- ---- an entity is at its positions
 settled_length : (b : Base) (otherwise : Option Mode) (levels : List (Option Mode)) → length (settled b otherwise levels) ≡ length levels
 settled_length b otherwise [] = refl
 settled_length b otherwise (x ∷ below) = ap suc (settled_length b otherwise below)
-
-in_left : (a b : List (Option Mode)) (k : ℕ) → k < length a → slice_index_or (a ++ b) k (Some Private) ≡ slice_index_or a k (Some Private)
-in_left [] b k low = absurd (omega (arith, low))
-in_left (x ∷ a) b zero low = refl
-in_left (x ∷ a) b (suc k) low = in_left a b k (omega (arith, low))
-
-in_right : (a b : List (Option Mode)) (j k : ℕ) → j ≡ length a + k → slice_index_or (a ++ b) j (Some Private) ≡ slice_index_or b k (Some Private)
-in_right [] b j k e = let z : j ≡ k = omega (arith, e) in ap (λ i. slice_index_or b i (Some Private)) z
-in_right (x ∷ a) b zero k e = absurd (omega (arith, e))
-in_right (x ∷ a) b (suc j) k e = in_right a b j k (omega (arith, e))
 
 pub record IsPositioned (list : List Entity) (s : ℕ) (n : Numbered) : Type 0 where
   pub skip : ℕ
@@ -34,7 +24,7 @@ positioned (e ∷ rest) s n has = ⊎_elim (λ is. subst (IsPositioned (e ∷ re
       skip = 0;
       first = omega arith;
       ends = omega arith;
-      levels = λ k low. let z : 0 + k ≡ k = omega arith in ap (λ i. slice_index_or (settled_modes e ++ settled_in rest) i (Some Private)) z ∙ in_left (settled_modes e) (settled_in rest) k (omega (arith, low, size));
+      levels = λ k low. let z : 0 + k ≡ k = omega arith in ap (λ i. slice_index_or (settled_modes e ++ settled_in rest) i (Some Private)) z ∙ get_or_append_left (settled_modes e) (settled_in rest) (Some Private) k (omega (arith, low, size));
     }
 
     later : IsPositioned rest (s + positions_of e) n → IsPositioned (e ∷ rest) s n
@@ -42,7 +32,8 @@ positioned (e ∷ rest) s n has = ⊎_elim (λ is. subst (IsPositioned (e ∷ re
       skip = positions_of e + w.skip;
       first = omega (arith, first);
       ends = omega (arith, ends);
-      levels = λ k low. in_right (settled_modes e) (settled_in rest) (positions_of e + w.skip + k) (w.skip + k) (omega (arith, size)) ∙ w.levels k low;
+      levels = λ k low. let at : positions_of e + w.skip + k ≡ length (settled_modes e) + (w.skip + k) = omega (arith, size) in
+          ap (λ i. slice_index_or (settled_modes e ++ settled_in rest) i (Some Private)) at ∙ get_or-append-add (settled_modes e) (settled_in rest) (w.skip + k) (Some Private) ∙ w.levels k low;
     }
 
 -- ---- the mode of a position

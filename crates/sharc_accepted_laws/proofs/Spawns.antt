@@ -1,5 +1,5 @@
 -- New threads.
-use Rattle.sharc_accepted_laws.proofs.{Imports.{◌≡◌, ℕ, nat_lt, eq-eqb, Bool, true, false, cond, [], ◌∷◌, map, slice_get, refl, ap, sym, ◌∙◌, subst, Some, IsSomeAnd, Contains, or_left, AllByRecursion, list_any, Span, Declaration, Identifier, in_function, Expression, Arguments, no_arguments, argument, spawn, value, Function, Named, Kind, void, is_pointer, declared_kind, declared_kinds, Code, function_of, Parameter, of_all, Names, spawns, Spawns, Resolution, named_at, functions_in, function_at, declaration_at, variable_kind, variable, parameters_of, parameters_named, passed, IsThread, HaveTypes, one_more, Assignable, SpawnsByName, number_named, Assignment, IsFunction, IsCall, kind_of, is_ref, parameters_scope, context_in, parameter_of, width_of, Context, slot_of, int_count, IsScalar, Suits, ArgumentsSuit, Refers, Anything, Within, Signature, LessNumber, EntryMentions, IsShared, Setting, Handed, SpawnTyped, IsOf, argument_type, IsAccepted, BeginsAlone, width_named, integers, typing, function_signature, signature_by, is_numbered, is_spawned, is_main, is_start, setting_of, IsSet, head_there, of_each, place_there}, Arguments.{parameters_declared, passes_scalar}, Calls.{of_all_there, alone_is, narrower_same}, Facts.{Laws, expression_of, has_type}, Forms.{pointer_no_integer, pointer_reference, integer_no_reference, to_integer, passes_of, spawn_typed, function_parameters}, StaticLists.passes_by as any_passes}
+use Rattle.sharc_accepted_laws.proofs.{Imports.{◌≡◌, ℕ, nat_lt, eq-eqb, Bool, true, false, cond, [], ◌∷◌, map, slice_get, refl, ap, sym, ◌∙◌, subst, Some, IsSomeAnd, Contains, or_left, AllByRecursion, list_any, Span, Declaration, Identifier, in_function, Expression, Arguments, no_arguments, argument, spawn, value, Function, Named, Kind, void, is_pointer, declared_kind, declared_kinds, Code, function_of, Parameter, of_all, Names, spawns, Spawns, Resolution, named_at, functions_in, function_at, declaration_at, variable_kind, variable, parameters_of, parameters_named, passed, IsThread, HaveTypes, one_more, Assignable, SpawnsByName, number_named, Assignment, IsFunction, IsCall, kind_of, is_ref, parameters_scope, context_in, parameter_of, width_of, Context, slot_of, int_count, IsScalar, Suits, ArgumentsSuit, Refers, Anything, Within, Signature, LessNumber, EntryMentions, IsShared, Setting, Handed, SpawnTyped, IsOf, argument_type, IsAccepted, BeginsAlone, width_named, integers, typing, function_signature, signature_by, is_numbered, is_spawned, is_main, is_start, setting_of, IsSet, head_there, of_each, place_there, passes_by as any_passes}, Arguments.{parameters_declared, passes_scalar}, Calls.{of_all_there, alone_is, narrower_same}, Facts.{Laws, expression_of, has_type}, Forms.{pointer_no_integer, pointer_reference, integer_no_reference, to_integer, passes_of, spawn_typed, function_parameters}}
 use Rattle.sharc_check.specs.Constructs as constructs
 use Rattle.sharc_flat.specs.Suits.{Passes}
 use Rattle.sharc_invariant.specs.Typed as typed

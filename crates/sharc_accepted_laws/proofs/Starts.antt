@@ -1,5 +1,5 @@
 -- Functions with which a thread begins, main among them; and a whole program.
-use Rattle.sharc_accepted_laws.proofs.{Imports.{◌≡◌, ⊎_elim, ℕ, ◌<◌, ◌≤◌, Bool, true, cond, List, [], ◌∷◌, length, nat_lt, slice_get, refl, ap, sym, ◌∙◌, subst, arith, eqb-true, Option, Some, None, codes, false≢true, or_cases, or_right, bytes_eq-Decides, IsSomeAnd, list_any, Declaration, in_function, Function, Named, int, declared_kind, GlobalCells, Code, spawns, of_all, Names, Spawns, Resolution, functions_in, function_at, named_at, SpawnsThreads, HasMain, OneFunctionOfName, WithinLimits, is_reference, Assignment, IsMainOf, parameters_scope, int_count, ref_count, globals_of, Anything, Within, EntryMentions, BasesStand, held_named, ResultLaws, FunctionsStand, SpawnedBegin, pointers, variable_entry, VariablesFound, typing, signature_by, is_numbered, is_spawned, is_main, is_start, setting_of, IsSet, ExpressionsAreTypable, ProgramsAreTypable, Setting, IsLowTyping, StartTypable, MainTypable, TypedSuits, place_of_element, below_there, place_there}, Assigned.Laws, Functions.{TypeLaws, function_typable}, Linked.linked, StaticRegisters.pointer_count, StaticLists.passes_there}
+use Rattle.sharc_accepted_laws.proofs.{Imports.{◌≡◌, ⊎_elim, ℕ, ◌<◌, ◌≤◌, Bool, true, cond, List, [], ◌∷◌, length, nat_lt, slice_get, refl, ap, sym, ◌∙◌, subst, arith, eqb-true, Option, Some, None, codes, false≢true, or_cases, or_right, bytes_eq-Decides, IsSomeAnd, list_any, Declaration, in_function, Function, Named, int, declared_kind, GlobalCells, Code, spawns, of_all, Names, Spawns, Resolution, functions_in, function_at, named_at, SpawnsThreads, HasMain, OneFunctionOfName, WithinLimits, is_reference, Assignment, IsMainOf, parameters_scope, int_count, ref_count, globals_of, Anything, Within, EntryMentions, BasesStand, held_named, ResultLaws, FunctionsStand, SpawnedBegin, pointers, variable_entry, VariablesFound, typing, signature_by, is_numbered, is_spawned, is_main, is_start, setting_of, IsSet, ExpressionsAreTypable, ProgramsAreTypable, Setting, IsLowTyping, StartTypable, MainTypable, TypedSuits, place_of_element, below_there, place_there, passes_there}, Assigned.Laws, Functions.{TypeLaws, function_typable}, Linked.linked, StaticRegisters.pointer_count}
 use Rattle.sharc_flat.specs.Flattened as flat
 use Rattle.sharc_invariant.specs.Typed.{IsPlain}
 

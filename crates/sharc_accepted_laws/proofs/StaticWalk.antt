@@ -1,5 +1,5 @@
 -- The lock paths of types lead through pointers that stand: over all statements of a function, with the variables that stand at each.
-use Rattle.sharc_accepted_laws.proofs.{Imports.{◌≡◌, ◌⊎◌, inl, inr, ℕ, ◌==◌, Bool, true, false, cond, List, [], ◌∷◌, ◌++◌, length, map, refl, ap, sym, ◌∙◌, subst, eqb-true, append-nil, append_assoc, Option, Some, None, Contains, AllByRecursion, Declaration, expressions, in_option, in_right, in_simple, in_local, in_first, in_statement, in_statements, in_function, Expression, Right, value, malloc, Simple, assign, does_call, Local, First, nothing, declares, does, Statement, Statements, no_statements, statement, Function, Item, structure, global, function, GlobalCells, Named, Scope, is_pointer, Entry, Role, declared as entity_declared, casts, local_entities, first_entities, head_entities, statement_entities, statements_entities, result_of, function_entities, entities_in, with_parameters, in_body, file_scope, Resolution, functions_in, declaration_at, variable_kind, Around, opened, looping, with_names, is_here, behind_first, after, first_locals, locals_in_all, IsItself, IsFound, EachTypeFound, EachNameOnce, OnlyNames, EachNamesItself, EachNamesFound, EachPathFound, MeetsConstraints, NamesFound, meaning_token, IsVariableIn, TypeStands, PathsAt, FirstRead, LocalsStand, AllLocalsStand, around_in, BodyStands, Placing, at, places_in_local, places_in_first, places_in, places_in_all, places_of, places_of_all, IsLeastAssignment, Assignment, written, Slot, with_variable, flat_behind_first, behind_statement, parameters_scope, Context, slot_of, slot_kind, DeclaredStands, IsClosedScope, ExpressionStands, ExpressionsStand, LocalStands, FirstStands, StatementStands, StatementsStand, FunctionStands, FunctionsStand, eqb_same, same_some, none_some, front, back, both, head_there, together, of_each, tail_there, Entity}, Noted.{all_say, parameters_closed}, Scoping.ParametersStand, FileNames.in_file, Places.{right_kind, Here, FileKnown, file_known, found_stands, reads_written, Seen, all_stand, casts_found, PlaceKnown, IsTyped, seen_by}, StaticRegisters.{kind_more, all_still, none_closed, more_closed}}
+use Rattle.sharc_accepted_laws.proofs.{Imports.{◌≡◌, ◌⊎◌, inl, inr, ℕ, ◌==◌, Bool, true, false, cond, List, [], ◌∷◌, ◌++◌, length, map, refl, ap, sym, ◌∙◌, subst, eqb-true, append-nil, append_assoc, Option, Some, None, Contains, AllByRecursion, Declaration, expressions, in_option, in_right, in_simple, in_local, in_first, in_statement, in_statements, in_function, Expression, Right, value, malloc, Simple, assign, does_call, Local, First, nothing, declares, does, Statement, Statements, no_statements, statement, Function, Item, structure, global, function, GlobalCells, Named, Scope, is_pointer, Entry, Role, declared as entity_declared, casts, local_entities, first_entities, head_entities, statement_entities, statements_entities, result_of, function_entities, entities_in, with_parameters, in_body, file_scope, Resolution, functions_in, declaration_at, variable_kind, Around, opened, looping, with_names, is_here, behind_first, after, first_locals, locals_in_all, IsItself, IsFound, EachTypeFound, EachNameOnce, OnlyNames, EachNamesItself, EachNamesFound, EachPathFound, MeetsConstraints, NamesFound, meaning_token, IsVariableIn, TypeStands, PathsAt, FirstRead, LocalsStand, AllLocalsStand, around_in, BodyStands, Placing, at, places_in_local, places_in_first, places_in, places_in_all, places_of, places_of_all, IsLeastAssignment, Assignment, written, Slot, with_variable, flat_behind_first, behind_statement, parameters_scope, Context, slot_of, slot_kind, DeclaredStands, IsClosedScope, ExpressionStands, ExpressionsStand, LocalStands, FirstStands, StatementStands, StatementsStand, FunctionStands, FunctionsStand, eqb_same, same_some, none_some, front, back, both, head_there, together, of_each, tail_there, Entity, casts_found}, Noted.{all_say, parameters_closed}, Scoping.ParametersStand, FileNames.in_file, Places.{right_kind, Here, FileKnown, file_known, found_stands, reads_written, Seen, all_stand, PlaceKnown, IsTyped, seen_by}, StaticRegisters.{kind_more, all_still, none_closed, more_closed}}
 use Rattle.sharc_tree.specs.Tree as tree
 use Rattle.sharc_names.specs.Names as meaning
 use Rattle.sharc_ctype.specs.Statements.{declared, in_head, locals_in}

@@ -1,5 +1,5 @@
 -- The tables of code that is made of a program.
-use Rattle.sharc_accepted_laws.proofs.Imports.{◌≡◌, ℕ, pos, ◌+◌, ◌^◌, ◌<◌, ◌≤◌, Bool, List, [], ◌∷◌, length, map, slice_get, slice_index, get_or as slice_index_or, refl, ap, sym, ◌∙◌, subst, arith, Some, length-map, unsigned_abs, Span, GlobalDefinition, GlobalForm, Function, Constant, Code, Row, GlobalCells, no_function, GlobalsFit, globals_in, functions_in, function_at, Assignment, FlatCode, flat_of, rows_of, Flattens, names_of, globals_of, entered_at, place, dropped, MadeTablesFit, AreGlobals, SomeAreAlone, IsAccepted, GranulesAreFew, IsCounted, CountedForm, HasTables, TargetsAre, GlobalsHold, targets_of, AreUnsigned, CodeIsSet, HasRow, place_of_element, to_each}
+use Rattle.sharc_accepted_laws.proofs.Imports.{◌≡◌, ℕ, pos, ◌^◌, ◌<◌, ◌≤◌, Bool, List, length, map, slice_index, get_or as slice_index_or, refl, ap, sym, ◌∙◌, subst, arith, Some, length-map, unsigned_abs, Span, GlobalDefinition, GlobalForm, Function, Constant, Code, Row, no_function, GlobalsFit, globals_in, functions_in, function_at, Assignment, FlatCode, flat_of, rows_of, Flattens, names_of, globals_of, entered_at, place, dropped, MadeTablesFit, AreGlobals, SomeAreAlone, IsAccepted, GranulesAreFew, IsCounted, CountedForm, HasTables, TargetsAre, GlobalsHold, targets_of, AreUnsigned, CodeIsSet, HasRow, place_of_element, to_each}
 use Rattle.sharc_tree.specs.{declared.token.Number.Number, declared.tree.item.GlobalForm.TheVariants.Initial}
 use Rattle.sharc_compile.specs.Made.{IsCodeOf}
 use Rattle.sharc_flat_lemmas.proofs.{Functions.{are_rows, row_of, rows_as_many}, Laid.{mapped_same, rows_many, rows_same}}

@@ -1,6 +1,5 @@
 -- A lock path in the type of a field that names a field names one of the same struct.
 use Rattle.sharc_accepted_laws.proofs.{Imports.{◌≡◌, ⊎_elim, ℕ, Bool, true, false, List, [], ◌∷◌, ◌++◌, length, refl, sym, ◌∙◌, subst, Option, Some, None, Contains, Mode, Locked, Path, One, Through, Declaration, WrittenType, StructDefinition, IsLow, IsPlaced, Item, structure, global, function, UnknownName, TypeNotAllowed, Named, Scope, Entry, look_up, field_of, named_of, Note, fault, refers, fault_unless, first_notes, main_notes, name_notes, path_notes, mode_notes, modes_notes, base_notes, allowed_there, type_notes, Role, sizes_notes, heads_notes, no_heads, field_notes, fields_notes, item_notes, items_notes, main_missing, file_scope, notes_about, Resolution, IsResolved, named_at, structs_in, lock_of, EachNameOnce, OnlyNames, head_there, head_or_tail, none_there, left_there, right_there}, StaticSiblings.{found_there, not_field}, Noted.{no_faults, told}}
-use Rattle.sharc_names.specs.Names as meaning
 
 -- ---- what a note of the program says is so
 -- the field of this token is one of these

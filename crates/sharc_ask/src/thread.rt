@@ -58,7 +58,20 @@ pub fn ask(
 ) -> Result<Asked, AllocError>
     ensures { IfOk result (λ a. Tells a (asks program.now function argument answers.now fuel)) }
 {
-    let mut st = started(alloc, answers, fuel);
+    let frame = Frame {
+        variables: Vec::new(alloc),
+        temporaries: Vec::new(alloc),
+    };
+    let mut st = State {
+        alloc,
+        frame,
+        below: Vec::new(alloc),
+        answers,
+        events: Vec::new(alloc),
+        held: Vec::new(alloc),
+        fuel,
+        given_up: Vec::new(alloc),
+    };
     match run_thread(program, function, argument, &mut st) {
         Ok(()) => Ok(told(st, Outcome::Ended)),
         Err(RunEnd::Memory) => Err(AllocError),

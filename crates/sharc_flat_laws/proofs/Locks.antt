@@ -130,6 +130,25 @@ module _ (m : Assignment) (w : FileKnown m) where
     places : Locked (places_in_all around scope a)
     locals : AllLocalLocks m around scope.names a
 
+  -- what is behind a test, and the test with it
+  behind_test : (inside : Around) (scope : Scope) (e : Expression) (a : Statement) → EntriesKnown r scope.names → Found (casts (expressions e) ++ statement_entities a) → Known (at scope (expressions e) ++ places_in inside scope a)
+      → Typed (expressions e ++ in_statement a) → LocalsStand r inside scope.names a → Given inside scope a
+  behind_test inside scope e a known f k t stand = record {
+    known = known;
+    found = back (IsFound r) (casts (expressions e)) (statement_entities a) f;
+    places = back (PlaceKnown r) (at scope (expressions e)) (places_in inside scope a) k;
+    typed = back (IsTyped r) (expressions e) (in_statement a) t;
+    stand = stand;
+  }
+
+  with_test : (inside : Around) (scope : Scope) (e : Expression) (a : Statement) → EntriesKnown r scope.names → Found (casts (expressions e) ++ statement_entities a) → Known (at scope (expressions e) ++ places_in inside scope a)
+      → Typed (expressions e ++ in_statement a) → Locked (places_in inside scope a) → Locked (at scope (expressions e) ++ places_in inside scope a)
+  with_test inside scope e a known f k t behind =
+      let P = at scope (expressions e) in
+      both (LocksAt m) P (places_in inside scope a)
+      (list_locked scope known (expressions e) (all_good m w scope e) (front (PlaceKnown r) P (places_in inside scope a) k) (front (IsTyped r) (expressions e) (in_statement a) t) (casts_found r (expressions e) (front (IsFound r) (casts (expressions e)) (statement_entities a) f)))
+      behind
+
   mutual
     locked_in : (around : Around) (scope : Scope) (a : Statement) → Given around scope a → AreLocked around scope a
     locked_in around scope (tree.block s all) g =
@@ -143,20 +162,8 @@ module _ (m : Assignment) (w : FileKnown m) where
     locked_in around scope (tree.return s e) g = record { places = list_locked scope g.known (in_option expressions e) (option_good scope e) g.places g.typed (casts_found r (in_option expressions e) g.found); locals = tt }
     locked_in around scope (tree.if_then s e a) g =
         let inside = opened around scope.names in
-        let P = at scope (expressions e) in
-        let x = locked_in inside scope a (record {
-          known = g.known;
-          found = back (IsFound r) (casts (expressions e)) (statement_entities a) g.found;
-          places = back (PlaceKnown r) P (places_in inside scope a) g.places;
-          typed = back (IsTyped r) (expressions e) (in_statement a) g.typed;
-          stand = g.stand;
-        }) in
-        record {
-          places = both (LocksAt m) P (places_in inside scope a)
-              (list_locked scope g.known (expressions e) (all_good m w scope e) (front (PlaceKnown r) P (places_in inside scope a) g.places) (front (IsTyped r) (expressions e) (in_statement a) g.typed) (casts_found r (expressions e) (front (IsFound r) (casts (expressions e)) (statement_entities a) g.found)))
-              x.places;
-          locals = x.locals;
-        }
+        let x = locked_in inside scope a (behind_test inside scope e a g.known g.found g.places g.typed g.stand) in
+        record { places = with_test inside scope e a g.known g.found g.places g.typed x.places; locals = x.locals }
     locked_in around scope (tree.if_then_else s e a b) g =
         let inside = opened around scope.names in
         let E = casts (expressions e) in
@@ -166,13 +173,7 @@ module _ (m : Assignment) (w : FileKnown m) where
         let f = front (IsFound r) (E ++ statement_entities a) (statement_entities b) g.found in
         let k = front (PlaceKnown r) (P ++ PA) PB g.places in
         let t = front (IsTyped r) (expressions e ++ in_statement a) (in_statement b) g.typed in
-        let x = locked_in inside scope a (record {
-          known = g.known;
-          found = back (IsFound r) E (statement_entities a) f;
-          places = back (PlaceKnown r) P PA k;
-          typed = back (IsTyped r) (expressions e) (in_statement a) t;
-          stand = g.stand.0;
-        }) in
+        let x = locked_in inside scope a (behind_test inside scope e a g.known f k t g.stand.0) in
         let y = locked_in inside scope b (record {
           known = g.known;
           found = back (IsFound r) (E ++ statement_entities a) (statement_entities b) g.found;
@@ -181,27 +182,13 @@ module _ (m : Assignment) (w : FileKnown m) where
           stand = g.stand.1;
         }) in
         record {
-          places = both (LocksAt m) (P ++ PA) PB
-              (both (LocksAt m) P PA (list_locked scope g.known (expressions e) (all_good m w scope e) (front (PlaceKnown r) P PA k) (front (IsTyped r) (expressions e) (in_statement a) t) (casts_found r (expressions e) (front (IsFound r) E (statement_entities a) f))) x.places)
-              y.places;
+          places = both (LocksAt m) (P ++ PA) PB (with_test inside scope e a g.known f k t x.places) y.places;
           locals = (x.locals, y.locals);
         }
     locked_in around scope (tree.while s e a) g =
         let inside = looping (opened around scope.names) in
-        let P = at scope (expressions e) in
-        let x = locked_in inside scope a (record {
-          known = g.known;
-          found = back (IsFound r) (casts (expressions e)) (statement_entities a) g.found;
-          places = back (PlaceKnown r) P (places_in inside scope a) g.places;
-          typed = back (IsTyped r) (expressions e) (in_statement a) g.typed;
-          stand = g.stand;
-        }) in
-        record {
-          places = both (LocksAt m) P (places_in inside scope a)
-              (list_locked scope g.known (expressions e) (all_good m w scope e) (front (PlaceKnown r) P (places_in inside scope a) g.places) (front (IsTyped r) (expressions e) (in_statement a) g.typed) (casts_found r (expressions e) (front (IsFound r) (casts (expressions e)) (statement_entities a) g.found)))
-              x.places;
-          locals = x.locals;
-        }
+        let x = locked_in inside scope a (behind_test inside scope e a g.known g.found g.places g.typed g.stand) in
+        record { places = with_test inside scope e a g.known g.found g.places g.typed x.places; locals = x.locals }
     locked_in around scope (tree.for s h a) g =
         let outer = opened around scope.names in
         let inner = in_head outer scope h in

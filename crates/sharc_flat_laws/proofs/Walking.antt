@@ -1,5 +1,5 @@
 -- Each statement of a typed program suits.
-use Rattle.sharc_flat_laws.proofs.{Imports.{◌≡◌, ℕ, Bool, true, false, List, ◌++◌, refl, ap, sym, ◌∙◌, Option, Some, None, IfSome, false≢true, AllByRecursion, Declaration, WrittenType, LowStatement, LowStatements, is_statement, expressions, in_option, in_right, in_simple, in_first, in_statement, in_statements, Expression, Right, value, malloc, Simple, assign, does_call, First, nothing, declares, does, Statement, Statements, no_statements, statement, Scope, Kind, is_null, is_integer, is_pointer, same_kind, agrees, declared_kind, Entry, Resolution, kind_at, variable_kind, Around, opened, looping, with_names, declared, behind_first, in_head, after, made, first_locals, locals_in, locals_in_all, Agrees, IsFair, gives, result, transfers, option_transfers, right_transfers, simple_transfers, first_transfers, statement_transfers, statements_transfers, cell_at, pointed, Assignment, row_at, Sharing, NamesFound, HasType, IsScalar, Placing, at, places_in_first, places_in, places_in_all, IsHeld, MeetsRight, MeetsSimple, MeetsFirst, MeetsTest, MeetsReturn, Meets, AllMeet, is_reference, target, Context, Suits, Goes, RightSuits, SimpleSuits, InitialSuits, FirstSuits, TestSuits, IfThere, StatementSuits, StatementsSuit, PathStands, behind_declaration, flat_first, flat_statement, is_declaration, kind_in, LocksAt, LocksOf, FirstLocks, LocalLocks, AllLocalLocks, front, back, both}, KindLemmas.{one_kind, assigned_by}, Sorts.{integer_yes, pointer_reference, scalar, goes, declared_reference}, Expressions.{Facts, Stand, target_fits, lefts, no_function_held}, Suiting.{suits, place, first}, Scoped.{Same, Own, Known, stand, with_variable, new_here, path_stands}}
+use Rattle.sharc_flat_laws.proofs.{Imports.{◌≡◌, ℕ, Bool, true, false, List, ◌++◌, refl, ap, sym, ◌∙◌, Option, Some, None, IfSome, false≢true, AllByRecursion, Declaration, WrittenType, LowStatement, LowStatements, is_statement, expressions, in_option, in_right, in_simple, in_first, in_statement, in_statements, Expression, Right, value, malloc, Simple, assign, does_call, First, nothing, declares, does, Statement, Statements, no_statements, statement, Scope, Kind, is_pointer, same_kind, declared_kind, Entry, Resolution, kind_at, variable_kind, Around, opened, looping, with_names, declared, behind_first, in_head, after, made, first_locals, locals_in, locals_in_all, Agrees, IsFair, gives, result, transfers, option_transfers, right_transfers, simple_transfers, first_transfers, statement_transfers, statements_transfers, cell_at, pointed, Assignment, row_at, Sharing, NamesFound, HasType, Placing, at, places_in_first, places_in, places_in_all, IsHeld, MeetsRight, MeetsSimple, MeetsFirst, MeetsTest, MeetsReturn, Meets, AllMeet, is_reference, target, Context, Suits, Goes, RightSuits, SimpleSuits, InitialSuits, FirstSuits, TestSuits, IfThere, StatementSuits, StatementsSuit, PathStands, behind_declaration, flat_first, flat_statement, is_declaration, kind_in, LocksAt, LocksOf, FirstLocks, LocalLocks, AllLocalLocks, front, back, both}, Sorts.{integer_yes, pointer_reference, pointer_wanted, goes_to, scalar, declared_reference}, Expressions.{Facts, Stand, target_fits, lefts, no_function_held}, Suiting.{suits, place, first}, Scoped.{Same, Own, Known, stand, with_variable, new_here, path_stands}}
 use Rattle.sharc_tree.specs.Tree as tree
 use Rattle.sharc_ctype.specs.Transfers.{variable}
 
@@ -12,11 +12,8 @@ AreTyped r list = AllByRecursion (Has r) list
 abbrev AreKnown : Context → List Placing → Type 0
 AreKnown c list = AllByRecursion (Known c) list
 
-goes_to : (want k : Kind) → IsScalar k → agrees want k ≡ true → Goes want k
-goes_to want k s h = goes want k (assigned_by want k (is_null k) (is_integer k) refl refl s h)
-
 made_reference : (want : Kind) (w : WrittenType) → same_kind want (made w) ≡ true → is_reference want ≡ true
-made_reference want w h = pointer_reference want (w.ctype.base, _, one_kind want (made w) h)
+made_reference want w h = pointer_reference want (pointer_wanted want (made w) (w.ctype.base, _, refl) h)
 
 right_suits : (c : Context) → Facts c.program → (kind : Kind) (mode : Sharing) (x : Right) → Stand c (in_right x) → MeetsRight c.program.typed x → Agrees c.program.typed kind x → PathStands c.program.typed c.scope mode → RightSuits c kind mode x
 right_suits c w kind mode (value e) st m a p = (suits c w e st, goes_to kind _ m a)

@@ -1,5 +1,5 @@
 -- Where a test of a sole reference was refused, the source wants to give or to free the object that was tested.
-use Rattle.sharc_reply_laws.proofs.{Imports.{◌≡◌, ℕ, ◌⊎◌, inl, inr, List, [], ◌∷◌, sym, ap, ◌∙◌, subst, arith, slice_index, SourceEvent, NameThemselves, function_at, Assignment, events_of, History, number_of, Begun, IsNamedAt, Code, Instr, Shape, NotSole, count_word, Machine, instr_at, ref, stopped, begun, Turn, turns_of, CheckedRun, place_after, MayStart, IsConsistent, elements_before, founds_of, Targets, Labels, history_of, FindsOthers, TestersGive, WantsReported, TestsStay, count_found, object_tested}, Telling.{from_first, head_eq, same_function, some}}
+use Rattle.sharc_reply_laws.proofs.{Imports.{◌≡◌, ℕ, ◌⊎◌, inl, inr, List, [], ◌∷◌, sym, ap, ◌∙◌, subst, arith, slice_index, SourceEvent, AreOneByName, function_at, Assignment, events_of, History, number_of, Begun, IsNamedAt, Code, Instr, Shape, NotSole, count_word, Machine, instr_at, ref, stopped, begun, Turn, turns_of, CheckedRun, place_after, MayStart, IsConsistent, elements_before, founds_of, Targets, Labels, history_of, FindsOthers, TestersGive, WantsReported, TestsStay, count_found, object_tested}, Telling.{from_first, head_eq, some}}
 
 -- ---- the thread stands at its test to the end
 module _ (tests : TestsStay) (x : Targets) (code : Code) (s : Shape) (ls : Labels) (run : List Turn) (checked : CheckedRun code s run) (t site count : ℕ) (f : FindsOthers x code s ls run t site count) where
@@ -30,7 +30,7 @@ module _ (tests : TestsStay) (x : Targets) (code : Code) (s : Shape) (ls : Label
   same_object = ap (λ (y : Machine). ref y f.register) stands.1
 
 -- ---- what the source wants there
-module _ (m : Assignment) (names : NameThemselves m.typed) (code : Code) (s : Shape) (run : List Turn) (t site count : ℕ) (w : WantsReported m code (history_of code s run) t (NotSole site count)) where
+module _ (m : Assignment) (names : AreOneByName m.typed) (code : Code) (s : Shape) (run : List Turn) (t site count : ℕ) (w : WantsReported m code (history_of code s run) t (NotSole site count)) where
   abbrev R : History
   R = history_of code s run
 
@@ -49,7 +49,7 @@ module _ (m : Assignment) (names : NameThemselves m.typed) (code : Code) (s : Sh
       ∙ from_first t R other.before other.after other.begins other.stands other.own other.first in
       let begins : own.begins ≡ other.begins = head_eq own.begins other.begins (events_of t own.after) (events_of t other.after) both in
       let function : own.function ≡ other.function =
-      same_function m.typed names own.function other.function own.begins.site own.site (subst (λ (d : SourceEvent). IsNamedAt (function_at m.typed other.function) d.site) (sym begins) other.site)
+      names own.function other.function own.begins.site own.site (subst (λ (d : SourceEvent). IsNamedAt (function_at m.typed other.function) d.site) (sym begins) other.site)
       in
       subst (MayStart m) (sym function) k.1
 

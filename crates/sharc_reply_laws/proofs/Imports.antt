@@ -4,12 +4,11 @@ pub use Rattle.std.specs.{Io.KnownBytes.Appends, List.{AllByRecursion, cons_opti
 pub use Rattle.sharc_lemmas.proofs.{Bools.{and_left as left, and_right as right, or_split, yes}, Lists.{flat_same, range_more, reverse_cons, set_here, set_same}, Numbers.{eq_refl, lt_true as below, ne_eq, not_long, other_is, same_is, same_test}, Options.{no_guard as no_site, some_is as site_eq}}
 pub use Rattle.sharc_cli.specs.{Bounds.AreWithin, Commands.commands, declared.command.Command.Command, declared.command.Command.TheVariants.{Audit, Check, Explain, Record, Replay}}
 pub use Rattle.sharc_load.specs.Source.{source_of}
-pub use Rattle.sharc_tree.specs.{Low.IsLow, Tree.{Function, Program}, declared.event.Act.Act, declared.event.Act.TheVariants.Started, declared.event.CellAt.CellAt, declared.event.SourceEvent.SourceEvent, declared.token.FaultAt.FaultAt, declared.token.Site.Site, declared.token.Tokens.Tokens, declared.trap.Trap.Trap}
+pub use Rattle.sharc_tree.specs.{Low.IsLow, Tree.Program, declared.event.Act.Act, declared.event.Act.TheVariants.Started, declared.event.CellAt.CellAt, declared.event.SourceEvent.SourceEvent, declared.token.FaultAt.FaultAt, declared.token.Site.Site, declared.token.Tokens.Tokens, declared.trap.Trap.Trap}
 pub use Rattle.sharc_lex.specs.{Grammar.reading, declared.fault.TokenFault.{TokenFault as LexerFault}}
 pub use Rattle.sharc_parse.specs.{Places.Reads, declared.fault.GrammarFault.GrammarFault}
 pub use Rattle.sharc_names.specs.{Notes.{IsAmong, IsFirst, digit, faults, is_before}, declared.fault.Fault.Fault, declared.fault.FaultCode.FaultCode, declared.fault.FaultCode.TheVariants.{ArgumentCount, BadForm, DefinedTwice, LimitPassed, NoLvalue, NoMain, TypeMismatch, TypeNotAllowed, UnknownName}, declared.fault.Named.Named}
-pub use Rattle.sharc_ctype.specs.{Items.{named_in, notes_about}, Resolved.{IsResolved, Resolution, function_at, named_at}, Typings.IsToldAt}
-pub use Rattle.sharc_ctype_laws.specs.Declared.{NameThemselves}
+pub use Rattle.sharc_ctype.specs.{Items.{named_in, notes_about}, Resolved.{IsResolved, Resolution, function_at}, Typings.IsToldAt}
 pub use Rattle.sharc_mode.specs.{Flows.IsLeastAssignment, Moded.Assignment, declared.error.Cast.Cast, declared.error.ModeError.ModeError, declared.error.Warning.Warning}
 pub use Rattle.sharc_infer_laws.specs.Laws.{IsTypedAtTokens, LeastIsOne}
 pub use Rattle.sharc_check.specs.{Laws.CheckLaws, Rules.MeetsRules}
@@ -38,7 +37,7 @@ pub use Rattle.sharc_invariant.specs.{Bits.{CheckOf, touch_of}, Labels.Labels, S
 pub use Rattle.sharc_accepted_laws.specs.Targets.{targets_of}
 pub use Rattle.sharc_history_laws.specs.{Causes.ShowsCause, Conflicts.{IsCheck, site_of_check}, Followed.{Accesses, ChecksAreFollowed, IsFollowed, ShowsLock, access_checked, access_of, access_to}, History.history_of, Reports.{FindsOthers, IsLockCheck}, Seen.RunsBegin}
 pub use Rattle.sharc_compile_laws.specs.Paths.{IsAskedFor, TellsProgram}
-pub use Rattle.sharc_wants_laws.specs.{Cause.ShowsReference, Holding.lowered_of, Seeing.TestersGive, Wants.{IsNotThere, StopsOrWantsUnder, WantsAct, WantsBy, access_tested}}
+pub use Rattle.sharc_wants_laws.specs.{Beginning.AreOneByName, Cause.ShowsReference, Holding.lowered_of, Seeing.TestersGive, Wants.{IsNotThere, StopsOrWantsUnder, WantsAct, WantsBy, access_tested}}
 pub use Rattle.sharc_source_laws.specs.Laws.{ProgramsHoldNoSchedule}
 pub use Rattle.sharc_sound_laws.specs.{Alike.AreAlike, AlikeLaws.{CompiledAreAlike, RunsAreAlike}, BuiltSound.BuiltIsSound, Reports.{IsReportOf, WantsReported}, Sound.KeepsTo, StandStands.RunStands, Standing.IsPlaced}
 pub use Rattle.sharc_reply_laws.specs.{AuditLaws.{IsAudited, IsVerdict}, Few.ChosenAreFew, Kept.{IsKept, KeptLaws, RecordsKeep, ReplaysKeep, RunsKeep}, Laws.{AnswersAreOne, IsAcceptance, IsAsked, IsExplanation, IsRunning, MakesRun, RunsAreOnly, RunsNothing, SourceLaws, WarningsAreOne}, Orders.{Alone, Any, AreTurnsBy, Drawn, Order, by_load, by_record, by_replay, by_run, choice_of, written_of}, Prints.{TextsBeginWithPrints, events_in, printed_by, printed_in, value_line}, RecordLaws.{IsRecorded, IsRecording, IsReplayable, IsReplayed, IsReplaying, RecordLaws, RecordsAreOnly, ReplaysAreOnly, ReplaysSayAgain, SaysTheSame}, Replies.{LineTells, RepliesTell, ReplyTells}, Reports.{ReportTells, ThreadWantsAccess, ThreadWantsMutex, WantsRefusedAccess, access_refused, object_tested}, Runs.{BuiltRunsTell, RunTells}, Stopped.StopsAreStopped, Suggestions.{EachRepairs, IsRepairing, Repairs}, Tested.{ChecksStay, TestsStay, count_found, is_access_check, tester}, Threads.{HasBegun, HasNotBegun, counted_turns}}

@@ -1,16 +1,5 @@
 -- What a thread tells, by the function that the source run gives it.
-use Rattle.sharc_reply_laws.proofs.Imports.{◌≡◌, ℕ, ℤ, ◌⊎◌, inl, inr, cond, List, [], ◌∷◌, ◌++◌, Option, Some, None, refl, sym, ap, ◌∙◌, subst, filter-append, ◌==◌, Started, SourceEvent, Site, Function, Named, Resolution, function_at, named_at, NameThemselves, Assignment, Stands, events_of, is_of, History, Begun, IsNamedAt, Code, Machine, MayStart, IsBeginning, IsAskedFor, TellsProgram, HasBegun, HasNotBegun, same_is}
-
--- two functions with one name are one
-pub same_function : (r : Resolution) → NameThemselves r → (n k : ℕ) (site : Site) → IsNamedAt (function_at r n) site → IsNamedAt (function_at r k) site → n ≡ k
-same_function r names n k site a b = number_eq n k (sym (named n (function_at r n) refl a) ∙ named k (function_at r k) refl b)
-  where
-    number_eq : (a b : ℕ) → Named.Function a ≡ Named.Function b → a ≡ b
-    number_eq a b e = cc
-
-    named : (j : ℕ) (o : Option Function) → function_at r j ≡ o → IsNamedAt o site → named_at r site.token ≡ Named.Function j
-    named j None at is = absurd is
-    named j (Some f) at is = ap (λ (s : Site). named_at r s.token) is ∙ names.functions j f at
+use Rattle.sharc_reply_laws.proofs.Imports.{◌≡◌, ℕ, ℤ, ◌⊎◌, inl, inr, cond, List, [], ◌∷◌, ◌++◌, sym, ap, ◌∙◌, subst, filter-append, ◌==◌, Started, SourceEvent, function_at, AreOneByName, Assignment, Stands, events_of, is_of, History, Begun, IsNamedAt, Code, Machine, MayStart, IsBeginning, IsAskedFor, TellsProgram, HasBegun, HasNotBegun, same_is}
 
 -- the events of a thread, where its first one stands
 pub from_first : (t : ℕ) (R before after : History) (e : SourceEvent) → Stands R before e after → e.thread ≡ t → events_of t before ≡ [] → events_of t R ≡ e ∷ events_of t after
@@ -30,7 +19,7 @@ tail_eq a b xs ys q = cc
 started_eq : (v w : ℤ) → Started v ≡ Started w → v ≡ w
 started_eq v w q = cc
 
-module _ (m : Assignment) (code : Code) (names : NameThemselves m.typed) (R : History) (thread : ℕ) (at : Machine) (said : List SourceEvent) (lowered : List ℕ) (turns : ℕ)
+module _ (m : Assignment) (code : Code) (names : AreOneByName m.typed) (R : History) (thread : ℕ) (at : Machine) (said : List SourceEvent) (lowered : List ℕ) (turns : ℕ)
     (own_events : events_of thread R ≡ said) (have : (events_of thread R ≡ []) ⊎ ((b : Begun m R thread) × MayStart m b.own.function)) where
   has_begun : TellsProgram m code thread at said lowered turns → (b : Begun m R thread) → MayStart m b.own.function → HasBegun m code R thread at turns
   has_begun k b may =
@@ -39,7 +28,7 @@ module _ (m : Assignment) (code : Code) (names : NameThemselves m.typed) (R : Hi
       let begins : own.begins ≡ k.begins = head_eq own.begins k.begins (events_of thread own.after) k.told both in
       let told : events_of thread own.after ≡ k.told = tail_eq own.begins k.begins (events_of thread own.after) k.told both in
       let function : own.function ≡ k.function =
-      same_function m.typed names own.function k.function own.begins.site own.site (subst (λ (d : SourceEvent). IsNamedAt (function_at m.typed k.function) d.site) (sym begins) k.site)
+      names own.function k.function own.begins.site own.site (subst (λ (d : SourceEvent). IsNamedAt (function_at m.typed k.function) d.site) (sym begins) k.site)
       in
       let argument : own.argument ≡ k.argument = started_eq own.argument k.argument (sym own.act ∙ ap (λ (d : SourceEvent). d.act) begins ∙ k.act) in
       let asked : IsAskedFor m code thread k.function k.argument k.told at lowered turns = k.asked (subst (MayStart m) function may) in

@@ -9,7 +9,6 @@ use crate::replies::{records_are_told, sources_are_one, verdicts_are_told};
 use sharc_build::fronts_are_typed;
 use sharc_code::{range_laws, run_laws};
 use sharc_compile_laws::typed_paths_tell;
-use sharc_ctype_laws::laws::each_names_itself;
 use sharc_history_laws::{paths_law, seen_law};
 use sharc_seq::enabled_laws;
 use sharc_sound_laws::built::built_is_typed;
@@ -21,7 +20,8 @@ use sharc_sound_laws::{
 use sharc_source_laws::laws::numbers_have_no_sign;
 use sharc_wants_laws::followed_law;
 use sharc_wants_laws::sole::{
-    reports_show_cause, tested_are_only, testers_give, threads_have_begun,
+    functions_are_one_by_name, reports_show_cause, tested_are_only, testers_give,
+    threads_have_begun,
 };
 
 /// Where each turn is made by a thread that is chosen among those that may make one, none makes more events than the
@@ -38,7 +38,7 @@ pub fn chosen_are_few()
 pub fn threads_tell()
     ensures { TypedThreadsTell }
 {
-    each_names_itself();
+    functions_are_one_by_name();
     paths_law();
     threads_have_begun();
     turns_tell_own();
@@ -74,7 +74,7 @@ pub fn locks_are_wanted()
 pub fn given_are_tested()
     ensures { TypedGivenAreTested }
 {
-    each_names_itself();
+    functions_are_one_by_name();
     paths_law();
     testers_give();
     refused_stay();

@@ -1,5 +1,5 @@
 -- In a stuck run no thread has an event that may come next.
-use Rattle.sharc_sound_laws.proofs.{Imports.{◌≡◌, ◌≢◌, ℕ, zero, suc, pos, ◌<◌, ◌⊎◌, inl, inr, ⊎_elim, Bool, true, false, ◌||◌, ◌&&◌, cond, List, [], ◌∷◌, ◌++◌, length, Some, None, refl, sym, ap, ◌∙◌, subst, arith, or_right, ◌==◌, get_or as slice_index_or, list_any, Act, SourceEvent, NameThemselves, Assignment, events_of, is_of, AskLaws, History, Follows, IsFirst, IsSpawned, SourceRun, Outcome, wants, ended, spent, event_of, MayCome, is_gone, is_natural, is_spawn, spawns, was_spawned, went, Code, Instr, Shape, TurnState, Stopped, Ended, Machine, instr_at, int, may_go, Turn, cell_at, place_at, asks_for, held_up, IsOn, Stuck, Waits, place_after, history_of, act_awaited, ThreadsAreTold, IsNotThere, WantsBy, IsPlaced, same_is, or_cases, yes}, Standing.{IsNextBy, behind_own, from_first, next_by}}
+use Rattle.sharc_sound_laws.proofs.{Imports.{◌≡◌, ◌≢◌, ℕ, zero, suc, pos, ◌<◌, ◌⊎◌, inl, inr, ⊎_elim, Bool, true, false, ◌||◌, ◌&&◌, cond, List, [], ◌∷◌, ◌++◌, length, Some, None, refl, sym, ap, ◌∙◌, subst, arith, or_right, get_or as slice_index_or, list_any, Act, SourceEvent, AreOneByName, Assignment, events_of, is_of, AskLaws, History, Follows, IsFirst, IsSpawned, SourceRun, Outcome, wants, ended, spent, event_of, MayCome, is_gone, is_natural, is_spawn, spawns, was_spawned, went, Code, Instr, Shape, TurnState, Stopped, Ended, Machine, instr_at, int, may_go, Turn, cell_at, place_at, asks_for, held_up, IsOn, Stuck, Waits, place_after, history_of, act_awaited, ThreadsAreTold, IsNotThere, WantsBy, IsPlaced, same_is, or_cases, yes}, Standing.{IsNextBy, behind_own, from_first, next_by}}
 
 -- ---- tests over lists
 
@@ -58,7 +58,7 @@ first_is_started m R fuel e none f =
     ap (λ a. is_spawn a && is_natural e.thread e.answer) (ap (λ (d : SourceEvent). d.act) same ∙ f.act)
 
 -- ---- a stuck run
-module _ (ask : AskLaws) (m : Assignment) (names : NameThemselves m.typed) (code : Code) (starts : instr_at code 0 ≡ Instr.Start 0) (s : Shape) (run : List Turn) (told : ThreadsAreTold code s run)
+module _ (ask : AskLaws) (m : Assignment) (names : AreOneByName m.typed) (code : Code) (starts : instr_at code 0 ≡ Instr.Start 0) (s : Shape) (run : List Turn) (told : ThreadsAreTold code s run)
     (placed : (t : ℕ) → IsNotThere (history_of code s run) t ((place_after code s run).threads t) ⊎ IsPlaced m code (history_of code s run) t ((place_after code s run).threads t))
     (may_not : (t : ℕ) → IsOn (place_after code s run) t → Waits code s (place_after code s run) t → (e : SourceEvent) → e.thread ≡ t
     → act_awaited code ((place_after code s run).threads t) (instr_at code ((place_after code s run).threads t).at.pc) ≡ Some e.act → MayCome m.typed (history_of code s run) e e.act → ⊥)

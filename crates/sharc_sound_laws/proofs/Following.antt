@@ -1,5 +1,5 @@
 -- A thread of a checked run follows the source.
-use Rattle.sharc_sound_laws.proofs.{Imports.{◌≡◌, ℕ, ℤ, ◌||◌, cond, List, [], ◌∷◌, map, Option, Some, None, refl, sym, ap, ◌∙◌, list_any, Started, CellAt, SourceEvent, Assignment, events_of, held_mutexes, locked_by, same_cell, unless_unlocked, unlocks, asks, History, Follows, answers_of, by, Code, Machine, TellsIn, IsWhere, IsPlaced, BeginsByRight}, Standing.from_first}
+use Rattle.sharc_sound_laws.proofs.{Imports.{◌≡◌, ℕ, ℤ, ◌||◌, cond, List, [], ◌∷◌, map, Option, Some, None, refl, sym, ap, ◌∙◌, list_any, Started, CellAt, SourceEvent, Assignment, events_of, held_mutexes, locked_by, same_cell, unless_unlocked, unlocks, asks, History, Follows, answers_of, by, Code, Machine, TellsIn, IsWhere, IsPlaced, BeginsByRight, follows_with}, Standing.from_first}
 
 -- ---- what is held by events of a thread
 held_started : (e : SourceEvent) (v : ℤ) (later : List SourceEvent) → e.act ≡ Started v → held_mutexes (e ∷ later) ≡ held_mutexes later
@@ -19,24 +19,6 @@ held_map t (e ∷ es) = same_lock (locked_by e.act) ∙ ap (unless_unlocked es (
 
 -- ---- a thread that begins by right
 module _ (m : Assignment) (code : Code) (R : History) (thread : ℕ) (tells : TellsIn m R thread) (begins : BeginsByRight m tells.before thread tells.function tells.argument) where
-  -- with the fuel with which it has asked for its events
-  abbrev with_fuel : (fuel : ℕ) → map (by thread) (asks m tells.function tells.argument (answers_of (events_of thread tells.after)) fuel).events ≡ events_of thread tells.after → Follows m R fuel thread
-  with_fuel fuel asked = record {
-    function = tells.function;
-    argument = tells.argument;
-    before = tells.before;
-    begins = tells.begins;
-    after = tells.after;
-    stands = tells.stands;
-    own = tells.own;
-    first = tells.first;
-    act = tells.act;
-    answer = tells.answer;
-    site = tells.site;
-    by_right = begins.right;
-    asked = asked;
-  }
-
   -- where the code is placed
   pub placed : (at : Machine) → IsWhere m code thread tells.function tells.argument (events_of thread tells.after) at → IsPlaced m code R thread at
   placed at w =
@@ -45,7 +27,7 @@ module _ (m : Assignment) (code : Code) (R : History) (thread : ℕ) (tells : Te
         come = come;
         stands = record {
           fuel = w.fuel;
-          own = with_fuel w.fuel w.events;
+          own = follows_with m R thread tells begins w.fuel w.events;
           is = refl;
         };
         next = w.next;
@@ -57,4 +39,4 @@ module _ (m : Assignment) (code : Code) (R : History) (thread : ℕ) (tells : Te
       }
 
   pub follows : (fuel : ℕ) × Follows m R fuel thread
-  follows = let asked = tells.asked begins.may in (asked.0, with_fuel asked.0 asked.1)
+  follows = let asked = tells.asked begins.may in (asked.0, follows_with m R thread tells begins asked.0 asked.1)

@@ -3,9 +3,9 @@ pub use Rattle.std.proofs.{Common.{Bool, List, None, Option, Some, [], ap, appen
 pub use Rattle.std.specs.{List.{All, AllByRecursion, list_any, range_with_len}, Prelude.{neg_ℤ, unsigned_abs, ◌==◌}}
 pub use Rattle.sharc_lemmas.proofs.{Bools.{or_split as or_cases, yes}, Lists.{all_null as zeros, flat_same, map_length as mapped}, Numbers.{other_is, same_is}, Options.some_or}
 pub use Rattle.sharc_tree.specs.{Traps.trap_number, declared.ctype.Base.Base, declared.ctype.Base.TheVariants.{Struct, Void}, declared.event.Act.Act, declared.event.Act.TheVariants.Started, declared.event.CellAt.CellAt, declared.event.CellMode.CellMode, declared.event.Object.Object, declared.event.SourceEvent.SourceEvent, declared.event.Taken.Taken, declared.token.Site.Site, declared.tree.declaration.WrittenType.WrittenType, declared.tree.expression.Constant.Constant, declared.tree.expression.Constant.TheVariants.{Character, Null, Number}, declared.tree.item.GlobalDefinition.GlobalDefinition, declared.tree.item.GlobalForm.GlobalForm, declared.tree.item.GlobalForm.TheVariants.Initial}
-pub use Rattle.sharc_names.specs.{Kinds.declared_kind, declared.fault.Named.Named}
-pub use Rattle.sharc_ctype.specs.Resolved.{Resolution, function_at, functions_in, globals_in, named_at}
-pub use Rattle.sharc_ctype_laws.specs.{Declared.NameThemselves, Initials.{IsHeldBy, MeetsGlobal, MeetsInitial}, Laws.{MeetsGlobals, OneFunctionOfName}}
+pub use Rattle.sharc_names.specs.Kinds.{declared_kind}
+pub use Rattle.sharc_ctype.specs.Resolved.{Resolution, function_at, functions_in, globals_in}
+pub use Rattle.sharc_ctype_laws.specs.{Initials.{IsHeldBy, MeetsGlobal, MeetsInitial}, Laws.{MeetsGlobals, OneFunctionOfName}}
 pub use Rattle.sharc_mode.specs.Moded.{Assignment}
 pub use Rattle.sharc_meaning.specs.{Cells.element_cells, Events.{Access, Stands, access_by, events_of, held_mutexes, holds_mutex, is_of, locked_by, same_cell, unless_unlocked, unlocks}, Laws.{AskLaws, IsAnswer, IsPrefix, Next}, Meaning.{Asked, asks}, Obeys.{AlwaysObeys, History, Obeys, until_gone}, Reference.constant_value, Runs.{Follows, IsFirst, IsNamedAt, IsSpawned, SourceRun, answers_of, by}, State.{Outcome, ended, event_of, spent, stopped, wants}, Store.{MayCome, form_value, global_value, is_gone, is_natural, is_spawn, spawns, value_after, was_spawned, went}}
 pub use Rattle.sharc_word.specs.{Words.words_after, declared.step.TheConstants.THREADS, declared.step.WordOp.WordOp}
@@ -27,5 +27,5 @@ pub use Rattle.sharc_invariant.specs.{Labels.Labels, Laws.{RunsBits, RunsStand},
 pub use Rattle.sharc_accepted_laws.specs.StaticLaws.{IsAccepted}
 pub use Rattle.sharc_history_laws.specs.{Causes.{AccessReportsBreakRules, BreaksRules, GoesOn, HasNamed, IsNamed, IsNextOf, NamesAreCauses, OfFirst, OfRead, OfStop, OfWrite, ReportsHaveNamed, Stood, WasMade, noted_site}, Conflicts.{AccessReportsShow, site_of_check}, Followed.{Accesses, ChecksAreFollowed, IsFollowed, LockReportsBreakRules, LockReportsShowAccess, access_of, access_to}, History.history_of, Paths.PathsAreConsistent, Reports.{CastReportsShow, IsLockCheck, LacksLock}, Stuck.act_awaited, Threads.ThreadsAreTold}
 pub use Rattle.sharc_compile_laws.specs.{Paths.ThreadsTellInRuns, Threads.TellsIn}
-pub use Rattle.sharc_wants_laws.specs.{Beginning.BeginsByRight, Wants.{IsNotThere, IsThereIn, IsWhere, StopsOrWantsUnder, WantsAccess, WantsBy, access_tested}}
+pub use Rattle.sharc_wants_laws.specs.{Beginning.{AreOneByName, BeginsByRight, follows_with}, Wants.{IsNotThere, IsThereIn, IsWhere, StopsOrWantsUnder, WantsAccess, WantsBy, access_tested}}
 pub use Rattle.sharc_sound_laws.specs.{Alike.{AreAlike, IsSamePlace, unnamed}, AlikeLaws.{CompiledAreAlike, HistoriesAreAlike, RunsAreAlike}, Begins.MadeCodeBegins, CauseLaws.OthersAreCauses, Next.{IsSameAsked, OneIsNext}, Obeying.IsAccessReport, Reports.{IsReportOf, WantsReported}, StandStands.{ConflictStands, LockStands, PlaceStands, ThreadStands}, Standing.{IsPlaced, StandsAt}}

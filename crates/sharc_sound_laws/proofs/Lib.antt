@@ -7,7 +7,6 @@ pub mod Following
 pub mod Histories
 pub mod Lines
 pub mod Lists
-pub mod Named
 pub mod Next
 pub mod Picked
 pub mod Places

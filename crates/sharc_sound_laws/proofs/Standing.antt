@@ -1,5 +1,5 @@
 -- Where a thread of a source run stands: by its events it has come to this outcome. What then may come next of it, and how the run goes on.
-use Rattle.sharc_sound_laws.proofs.{Imports.{◌≡◌, ◌≢◌, ℕ, suc, ℤ, pos, ◌+◌, ⊎_elim, cond, List, [], ◌∷◌, ◌++◌, length, map, Some, refl, sym, ap, ◌∙◌, subst, arith, append_assoc, map-append, append-nil, filter-append, ◌==◌, Act, SourceEvent, Site, Taken, function_at, NameThemselves, Assignment, Access, Stands, access_by, events_of, is_of, AskLaws, IsAnswer, Next, Asked, asks, History, Follows, IsNamedAt, SourceRun, answers_of, by, wants, spent, event_of, MayCome, value_after, IsSameAsked, StandsAt, same_is, other_is}, Named.same_function, Next.{wanted, comes_as}}
+use Rattle.sharc_sound_laws.proofs.{Imports.{◌≡◌, ◌≢◌, ℕ, suc, ℤ, pos, ◌+◌, ⊎_elim, cond, List, [], ◌∷◌, ◌++◌, length, map, Some, refl, sym, ap, ◌∙◌, subst, arith, append_assoc, map-append, append-nil, filter-append, ◌==◌, Act, SourceEvent, Site, Taken, function_at, AreOneByName, Assignment, Access, Stands, access_by, events_of, is_of, AskLaws, IsAnswer, Next, Asked, asks, History, Follows, IsNamedAt, SourceRun, answers_of, by, wants, spent, event_of, MayCome, value_after, IsSameAsked, StandsAt, same_is, other_is}, Next.{wanted, comes_as}}
 use Rattle.sharc_meaning.specs.Laws.{RunLaws}
 
 -- ---- events of a thread
@@ -114,7 +114,7 @@ pub record IsNextBy (come : Asked) (e : SourceEvent) : Type 0 where
   pub is : come.outcome ≡ wants event
   pub same : IsSameAsked e event
 
-module _ (ask : AskLaws) (m : Assignment) (names : NameThemselves m.typed) (R : History) (t : ℕ) (come : Asked) (h : StandsAt m R t come) (known : come.outcome ≢ spent) (e : SourceEvent) (mine : e.thread ≡ t) where
+module _ (ask : AskLaws) (m : Assignment) (names : AreOneByName m.typed) (R : History) (t : ℕ) (come : Asked) (h : StandsAt m R t come) (known : come.outcome ≢ spent) (e : SourceEvent) (mine : e.thread ≡ t) where
   started_eq : (v w : ℤ) → Act.Started v ≡ Act.Started w → v ≡ w
   started_eq v w q = cc
 
@@ -166,7 +166,7 @@ module _ (ask : AskLaws) (m : Assignment) (names : NameThemselves m.typed) (R : 
           let both : own.begins ∷ (events_of t own.after ++ e ∷ []) ≡ f.begins ∷ events_of t f.after = sym mine_now ∙ from_first t (R ++ e ∷ []) f.before f.after f.begins f.stands f.own f.first in
           let begins = head_eq own.begins f.begins (events_of t own.after ++ e ∷ []) (events_of t f.after) both in
           let after = tail_eq own.begins f.begins (events_of t own.after ++ e ∷ []) (events_of t f.after) both in
-          let function : own.function ≡ f.function = same_function m.typed names own.function f.function own.begins.site own.site (subst (λ (d : SourceEvent). IsNamedAt (function_at m.typed f.function) d.site) (sym begins) f.site) in
+          let function : own.function ≡ f.function = names own.function f.function own.begins.site own.site (subst (λ (d : SourceEvent). IsNamedAt (function_at m.typed f.function) d.site) (sym begins) f.site) in
           let argument : own.argument ≡ f.argument = started_eq own.argument f.argument (sym own.act ∙ ap (λ (d : SourceEvent). d.act) begins ∙ f.act) in
           let told = events_of t own.after in
           let asked : map (by t) (asks m f.function f.argument (answers_of (told ++ e ∷ [])) fuel).events ≡ told ++ e ∷ [] =

@@ -10,14 +10,14 @@ ghost use Rattle.sharc_sound_laws.specs.Standing.{ThreadsStandIfTyped};
 use sharc_build::fronts_are_typed;
 use sharc_code::{range_laws, run_laws};
 use sharc_compile_laws::{threads_may_start, typed_paths_tell, typed_threads_tell};
-use sharc_ctype_laws::laws::{each_names_itself, meets_globals};
+use sharc_ctype_laws::laws::meets_globals;
 use sharc_history_laws::{
     causes_law, followed_law, history_law, paths_law, reports_law, stuck_law, threads_law,
     waiters_law,
 };
 use sharc_meaning::laws::{ask_laws, run_laws as source_run_laws};
 use sharc_source_laws::laws::numbers_have_no_sign;
-use sharc_wants_laws::sole::threads_begin_by_right;
+use sharc_wants_laws::sole::{functions_are_one_by_name, threads_begin_by_right};
 use sharc_wants_laws::{followed_law as code_is_followed, thread_wants, waits_law};
 
 /// The code that a source is compiled to, if its modes are accepted, is faithful to the program that the source is.
@@ -99,7 +99,7 @@ pub fn stuck_is_deadlock_if_typed()
     ensures { StuckIsDeadlockIfTyped }
 {
     ask_laws();
-    each_names_itself();
+    functions_are_one_by_name();
     made_code_begins();
     threads_law();
     threads_stand_if_typed();

@@ -1,5 +1,5 @@
 -- Flat code that is typed whatever checks are remembered is typed with those that are.
-use Rattle.sharc_typed_laws.proofs.{Imports.{◌⊎◌, ◌≡◌, ℕ, zero, suc, ◌+◌, ◌<◌, ◌≤◌, Bool, true, false, ◌||◌, List, [], ◌∷◌, length, Option, Some, None, refl, sym, ap, ◌∙◌, subst, inl, inr, ⊎_elim, arith, cases_lt, or_right, nat_tests, same_Some, none-some, slice_get, slice_index_or, nat_lt, ◌==◌, if◌then◌else◌, Read, Write, Code, Row as Function, Cell, no_function, Op, Flat, flat_function, leads_to, is_target, is_led_to, line_leads, is_entry, SimplePlace, in_variable, Access, access, tells, Know, place_of, known, has_passed, drops, drops_at, dropped, Targets, StaticType, Field, Pass, IsIn, Label, Labels, Less, IsScoped, HasField, Covers, ints_in, refs_in, entry_label, FlatLabels, TypedLine, IsTypedFlat, To, is_write, pass_at, passes_next, passes_after, passes_before, passes_in, with_passes, with_all, with_checks, remembered, IsPassed, RepeatsCheck, Knows, IsTypedAnyhow, eq_refl, and_right}, Checking.pass_is, Passing.{was_passed, covers, pass_eq, goes_on}, Lines.{within as line_within}}
+use Rattle.sharc_typed_laws.proofs.{Imports.{◌⊎◌, ◌≡◌, ℕ, zero, suc, ◌+◌, ◌<◌, ◌≤◌, Bool, true, false, ◌||◌, List, [], ◌∷◌, length, Option, Some, None, refl, sym, ap, ◌∙◌, subst, inl, inr, ⊎_elim, arith, cases_lt, or_right, nat_tests, same_Some, none-some, slice_get, slice_index_or, nat_lt, ◌==◌, if◌then◌else◌, Read, Write, Code, Row as Function, Cell, no_function, Op, Flat, flat_function, leads_to, is_target, is_led_to, line_leads, is_entry, SimplePlace, in_variable, Access, access, tells, Know, place_of, known, has_passed, drops, drops_at, dropped, Targets, StaticType, Field, Pass, IsIn, Label, Labels, Less, IsScoped, HasField, Covers, ints_in, refs_in, entry_label, FlatLabels, TypedLine, IsTypedFlat, To, is_write, pass_at, passes_next, passes_after, passes_before, passes_in, with_passes, with_all, with_checks, remembered, IsPassed, RepeatsCheck, Knows, IsTypedAnyhow, eq_refl, and_right}, Checking.pass_is, Passing.{was_passed, covers, pass_eq, goes_on}, Lines.{starts_alike, within as line_within}}
 use Rattle.sharc_heap.specs.declared.shadow_word.Kind.{Kind}
 use Rattle.sharc_guard.specs.Known.{in_global}
 
@@ -145,12 +145,12 @@ module _ (x : Targets) (code : Code) (fl : FlatLabels) (flat : Flat) (t : IsType
   line n o at = t.lines n o at (dropped flat n) passes (λ d. repeats n o at (sym (drops_is n o at) ∙ d)) (jumps n o at) (next n o at)
 
   scoped : (n : ℕ) → n < lines → IsScoped (ints_in code (label n).function) (refs_in code (label n).function) (with_passes (label n) (passes n))
-  scoped n lt = let h = t.scoped n lt in record { few = h.few; paths = h.paths; copies = h.copies; bases = h.bases; known = h.known; numbers = h.numbers; passes = λ p v among base. t.variables n p v among base }
+  scoped n lt = let h = t.functions.scoped n lt in record { few = h.few; paths = h.paths; copies = h.copies; bases = h.bases; known = h.known; numbers = h.numbers; passes = λ p v among base. t.variables n p v among base }
 
   entries : (f : ℕ) → f < length flat.functions → To (with_all fl.lines passes) lines (flat_function flat f).entry (entry_label (with_all fl.lines passes) f)
   entries f lt =
       let pc = (flat_function flat f).entry in
-      let h = t.entries f lt in
+      let h = t.functions.entries f lt in
       let none : passes pc ≡ [] = target_none pc (or_right (is_led_to flat.lines lines pc) (is_entry flat.functions pc) (entry_at flat.functions f lt)) in
       (h.0, subst (λ ps. Less (entry_label fl.lines f) (with_passes (label pc) ps)) (sym none) (less_none (entry_label fl.lines f) (label pc) h.1))
 
@@ -159,23 +159,15 @@ module _ (x : Targets) (code : Code) (fl : FlatLabels) (flat : Flat) (t : IsType
     targets = t.targets;
     globals = t.globals;
     lines = line;
-    end = ap (λ ps. with_passes (label lines) ps) (past lines (omega arith)) ∙ ap (λ l. with_passes l []) t.end;
-    owned = t.owned;
-    scoped = scoped;
-    entries = entries;
-    plain = t.plain;
-    starts = λ f e. let h = t.starts f e in record {
-      is = h.is;
-      result = h.result;
-      others = h.others;
-      reference = h.reference;
-      closed = h.closed;
-      number = h.number;
-      numbers = h.numbers;
-      frame = h.frame;
-      frame_int = h.frame_int;
+    functions = record {
+      end = ap (λ ps. with_passes (label lines) ps) (past lines (omega arith)) ∙ ap (λ l. with_passes l []) t.functions.end;
+      owned = t.functions.owned;
+      scoped = scoped;
+      entries = entries;
+      plain = t.functions.plain;
+      starts = λ f e. starts_alike code fl.lines (with_checks flat fl).lines.at f (t.functions.starts f e);
+      main = t.functions.main;
+      main_is = t.functions.main_is;
+      main_number = t.functions.main_number;
     };
-    main = t.main;
-    main_is = t.main_is;
-    main_number = t.main_number;
   }

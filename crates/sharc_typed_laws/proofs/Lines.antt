@@ -1,5 +1,5 @@
 -- Lines that stand in a table of marks are typed whatever checks are remembered, and before each is said what is remembered of copies and numbers.
-use Rattle.sharc_typed_laws.proofs.Imports.{◌≡◌, ℕ, zero, suc, ◌+◌, ◌<◌, Bool, true, false, cond, List, [], ◌∷◌, length, Some, refl, sym, subst, arith, none-some, slice_get, Cell, Op, is_straight, is_target, Know, nothing, know_next, know_after, known, Targets, TypedAnyhow, Knows, Mark, Tells, IsAtHand, IsLine, flat_labels, LinesAreTyped, LinesTell, LinesKnow}
+use Rattle.sharc_typed_laws.proofs.Imports.{◌≡◌, ℕ, zero, suc, ◌+◌, ◌<◌, Bool, true, false, cond, List, [], ◌∷◌, length, Some, refl, sym, subst, arith, none-some, slice_get, Code, Label, Labels, MayStart, Cell, Op, is_straight, is_target, Know, nothing, know_next, know_after, known, Targets, TypedAnyhow, Knows, Mark, Tells, IsAtHand, IsLine, flat_labels, LinesAreTyped, LinesTell, LinesKnow}
 
 pub lines_typed : LinesAreTyped
 lines_typed z owner table flat size all n o at = subst (λ lines. TypedAnyhow z.targets z.code (flat_labels z table) lines n o) size (all n o at).typed
@@ -40,6 +40,10 @@ pub within : (os : List Op) (n : ℕ) (o : Op) → slice_get os n ≡ Some o →
 within [] n o e = absurd (none-some o e)
 within (p ∷ os) zero o e = omega arith
 within (p ∷ os) (suc n) o e = let z = within os n o e in omega (arith, z)
+
+-- labels that say otherwise what is known before lines let functions start as well
+pub starts_alike : (code : Code) (ls : Labels) (at : ℕ → Label) (f : ℕ) → MayStart code ls f → MayStart code (record ls { at = at }) f
+starts_alike code ls at f h = record { is = h.is; result = h.result; others = h.others; reference = h.reference; closed = h.closed; number = h.number; numbers = h.numbers; frame = h.frame; frame_int = h.frame_int }
 
 pub lines_know : LinesKnow
 lines_know z owner table flat all n o a at e = cell_known z.targets (known flat n) (table n) a.cell (lines_tell z owner table flat all n (within flat.lines n o at)) ((all n o at).cells a e)

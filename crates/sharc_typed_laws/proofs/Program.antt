@@ -164,17 +164,19 @@ module _ (typed_lines : LinesAreTyped) (tell : LinesTell) (know : LinesKnow) (fu
     knows = know z owner table made lines;
     variables = variables z owner table made lines past (tell z owner table made lines) (know z owner table made lines);
     low = low z owner table made lines past (tell z owner table made lines) (know z owner table made lines) of.globals;
-    end = ap (λ (s : Mark). s.label) (get_or_past functions.states (length made.lines) none (omega (arith, functions.many, many)));
-    owned = λ n lt. let w = found made.lines n lt in (owner n, (lines n w.0 w.1).owned);
-    scoped = λ n lt. let w = found made.lines n lt in
-        let l = lines n w.0 w.1 in
-        subst (λ f. IsScoped (ints_in z.code f) (refs_in z.code f) (table n).label) (sym l.owned) l.scoped;
-    entries = entries;
-    plain = plain;
-    starts = starts;
-    main = subst (λ n. z.starts n ≡ true) (sym main_is) (t.main flat.main flattens.main).starts;
-    main_is = let few = (t.main flat.main flattens.main).few in omega (arith, few, main_is);
-    main_number = ap (λ n. (z.signature n).takes_ints 0) main_is ∙ (t.main flat.main flattens.main).number;
+    functions = record {
+      end = ap (λ (s : Mark). s.label) (get_or_past functions.states (length made.lines) none (omega (arith, functions.many, many)));
+      owned = λ n lt. let w = found made.lines n lt in (owner n, (lines n w.0 w.1).owned);
+      scoped = λ n lt. let w = found made.lines n lt in
+          let l = lines n w.0 w.1 in
+          subst (λ f. IsScoped (ints_in z.code f) (refs_in z.code f) (table n).label) (sym l.owned) l.scoped;
+      entries = entries;
+      plain = plain;
+      starts = starts;
+      main = subst (λ n. z.starts n ≡ true) (sym main_is) (t.main flat.main flattens.main).starts;
+      main_is = let few = (t.main flat.main flattens.main).few in omega (arith, few, main_is);
+      main_number = ap (λ n. (z.signature n).takes_ints 0) main_is ∙ (t.main flat.main flattens.main).number;
+    };
   }
 
 pub programs_typed : LinesAreTyped → LinesTell → LinesKnow → FunctionsAreTyped → MadeIsPast → MadeIsFlattened → (m : Assignment) (flat : FlatCode) → Flattens m flat → FitsMade (flat_of flat) → AreGlobalsNamed m → (z : Setting) → IsSettingOf z flat → (y : Typing) → TypableProgram z y m

@@ -1,5 +1,5 @@
 -- Code that is made of typed flat code is typed.
-use Rattle.sharc_typed_laws.proofs.{Imports.{◌≡◌, ℕ, zero, suc, ◌+◌, ◌<◌, ◌⊎◌, Bool, true, List, [], ◌∷◌, length, map, Some, None, refl, sym, ap, ◌∙◌, subst, inl, inr, arith, AllByRecursion, slice_get, slice_index_or, Code, Row as Function, Instr, Start, Exit, instr_at, function_of, no_function, place_at, no_place, IsCodeOf, instr_of, generated, FlatCode, Op, flat_function, flat_of, expanded, place, source_of, sites_of, with_texts, LineTexts, entered_at, dropped, Targets, Label, Labels, IsScoped, Leads, Fine, IsWellTyped, MayStart, ints_in, refs_in, entry_label, less_refl, FlatLabels, outside, labels_from, labels_of, IsTypedFlat}, TypedPlacing.{IsPlaced, FineList, There, LineStands, AllStand, all_stand, all_places, fine_at, lines_fine, goes_to}, Lines.{within as line_within}}
+use Rattle.sharc_typed_laws.proofs.{Imports.{◌≡◌, ℕ, zero, suc, ◌+◌, ◌<◌, ◌⊎◌, Bool, List, [], ◌∷◌, length, map, Some, None, refl, sym, ap, ◌∙◌, subst, inl, inr, arith, AllByRecursion, slice_get, slice_index_or, Code, Row as Function, Instr, Start, Exit, instr_at, function_of, no_function, place_at, no_place, IsCodeOf, instr_of, generated, FlatCode, Op, flat_function, flat_of, expanded, place, source_of, sites_of, with_texts, LineTexts, entered_at, dropped, Targets, Label, Labels, IsScoped, Leads, Fine, IsWellTyped, ints_in, refs_in, entry_label, less_refl, FlatLabels, outside, labels_from, labels_of, IsTypedFlat}, TypedPlacing.{IsPlaced, FineList, There, LineStands, AllStand, all_stand, all_places, fine_at, lines_fine, goes_to}, Lines.{starts_alike, within as line_within}}
 
 -- ---- lists
 source_there : (os : List Op) (ts : List LineTexts) (n : ℕ) (o : Op) → slice_get os n ≡ Some o → (told : LineTexts) × (slice_index_or (sites_of os ts) n no_place ≡ with_texts told (source_of o))
@@ -70,12 +70,12 @@ module _ (x : Targets) (flat : FlatCode) (code : Code) (fl : FlatLabels) (is : I
   site n o e = let w = source_there lines flat.told.items n o e in (w.0, ap (λ sites. slice_index_or sites n no_place) (sites_are ∙ is.made.sites) ∙ w.1)
 
   line_stands : (n : ℕ) (o : Op) → slice_get lines n ≡ Some o → LineStands x code d fl (length lines) n o
-  line_stands n o e = let lt = line_within lines n o e in let s = site n o e in record { typed = t.lines n o e; told = s.0; site = s.1; placed = (t.scoped n lt, t.owned n lt) }
+  line_stands n o e = let lt = line_within lines n o e in let s = site n o e in record { typed = t.lines n o e; told = s.0; site = s.1; placed = (t.functions.scoped n lt, t.functions.owned n lt) }
 
   all_lines : AllStand x code d fl (length lines) 0 lines
   all_lines = all_stand x code d fl (length lines) 0 lines
       (λ j o e. let z : j ≡ 0 + j = omega arith in subst (λ n. LineStands x code d fl (length lines) n o) z (line_stands j o e))
-      (let z : 0 + length lines ≡ length lines = omega arith in ap fl.lines.at z ∙ t.end)
+      (let z : 0 + length lines ≡ length lines = omega arith in ap fl.lines.at z ∙ t.functions.end)
 
   abbrev whole : List Label
   whole = outside ∷ outside ∷ labels_from x d fl 0 lines
@@ -125,20 +125,7 @@ module _ (x : Targets) (flat : FlatCode) (code : Code) (fl : FlatLabels) (is : I
       let known : f < length flat.functions.items = subst (λ n. f < n) (same_length (entered_at pl) flat.functions.items) few in
       let entry : (function_of code f).entry ≡ pl (flat_function (flat_of flat) f).entry = ap (λ fs. (slice_index_or fs f no_function).entry) all ∙ ap (λ (h : Function). h.entry) (function_there (entered_at pl) flat.functions.items f few) in
       subst (λ pc. Leads ls pc (entry_label ls f)) (sym entry)
-      (goes_to x code d fl (length lines) lines all_lines refl (flat_function (flat_of flat) f).entry (entry_label fl.lines f) (t.entries f known))
-
-  starts : (f : ℕ) → fl.lines.starts f ≡ true → MayStart code ls f
-  starts f e = let h = t.starts f e in record {
-    is = h.is;
-    result = h.result;
-    others = h.others;
-    reference = h.reference;
-    closed = h.closed;
-    number = h.number;
-    numbers = h.numbers;
-    frame = h.frame;
-    frame_int = h.frame_int;
-  }
+      (goes_to x code d fl (length lines) lines all_lines refl (flat_function (flat_of flat) f).entry (entry_label fl.lines f) (t.functions.entries f known))
 
   pub well_typed : IsWellTyped x code ls
   well_typed = record {
@@ -147,11 +134,11 @@ module _ (x : Targets) (flat : FlatCode) (code : Code) (fl : FlatLabels) (is : I
     fine = fine;
     scoped = scoped;
     entries = entries;
-    plain = t.plain;
-    starts = starts;
-    main = t.main;
-    main_is = t.main_is;
-    main_number = t.main_number;
+    plain = t.functions.plain;
+    starts = λ f e. starts_alike code fl.lines ls.at f (t.functions.starts f e);
+    main = t.functions.main;
+    main_is = t.functions.main_is;
+    main_number = t.functions.main_number;
     begin = (0, ap (λ is. slice_index_or is 0 Exit) instrs_are);
     placed = placed;
     first = (refl, refl, refl);

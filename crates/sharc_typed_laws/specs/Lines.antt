@@ -205,12 +205,8 @@ TypedLine x code ls lines dropped type n l k (op.Free r layout spot) = Frees x c
 TypedLine x code ls lines dropped type n l k o = StepsBy x code ls l k (body (λ j. 0) n o)
 
 -- ---- the whole
--- flat code with these labels, of which this code is made
-pub record IsTypedFlat (x : Targets) (code : Code) (dropped : ℕ → Bool) (fl : FlatLabels) (flat : Flat) : Type 0 where
-  pub targets : AreTargets x
-  pub globals : AreGlobals x code
-  pub lines : (n : ℕ) (o : Op) → slice_get flat.lines n ≡ Some o → TypedLine x code fl.lines (length flat.lines)
-      (dropped n) (fl.replaced n) n (fl.lines.at n) (fl.lines.at (n + 1)) o
+-- the functions of flat code with these labels: whose each line is, and how they begin
+pub record HasTypedFunctions (code : Code) (fl : FlatLabels) (flat : Flat) : Type 0 where
   -- nothing is known where no line is, so no line leads there
   pub end : fl.lines.at (length flat.lines) ≡ outside
   pub owned : (n : ℕ) → n < length flat.lines → (f : ℕ) × ((fl.lines.at n).function ≡ Some f)
@@ -223,3 +219,11 @@ pub record IsTypedFlat (x : Targets) (code : Code) (dropped : ℕ → Bool) (fl 
   pub main : fl.lines.starts code.main ≡ true
   pub main_is : code.main < 2 ^ 64
   pub main_number : (fl.lines.signature code.main).takes_ints 0 ≡ Anything
+
+-- flat code with these labels, of which this code is made
+pub record IsTypedFlat (x : Targets) (code : Code) (dropped : ℕ → Bool) (fl : FlatLabels) (flat : Flat) : Type 0 where
+  pub targets : AreTargets x
+  pub globals : AreGlobals x code
+  pub lines : (n : ℕ) (o : Op) → slice_get flat.lines n ≡ Some o → TypedLine x code fl.lines (length flat.lines)
+      (dropped n) (fl.replaced n) n (fl.lines.at n) (fl.lines.at (n + 1)) o
+  pub functions : HasTypedFunctions code fl flat

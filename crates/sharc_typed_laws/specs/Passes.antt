@@ -1,19 +1,19 @@
 -- The checks that are remembered before each line, by what sharc_guard knows there, and flat code that is typed
 -- whatever is remembered.
-use Rattle.std.specs.Prelude.{ℕ, zero, suc, pos, ◌+◌, ◌-◌, ◌*◌, ◌^◌, ◌≡◌, ◌≢◌, ◌<◌, ◌≤◌, Bool, true, false, not, List}
+use Rattle.std.specs.Prelude.{ℕ, zero, suc, pos, ◌+◌, ◌-◌, ◌*◌, ◌≡◌, ◌≢◌, ◌≤◌, Bool, true, false, not, List}
 use Rattle.std.specs.Prelude.{[], ◌∷◌, ◌++◌, length, filter, nat_lt, slice_get, Option, Some, None, if◌then◌else◌}
 use Rattle.sharc_heap.specs.{declared.shadow_word.Kind.Kind, declared.shadow_word.Kind.TheVariants.{Read, Write}}
 use Rattle.sharc_code.specs.{declared.code.Code.Code, declared.instr.Cell.Cell}
 use Rattle.sharc_code.specs.declared.instr.Cell.TheVariants as cells
-use Rattle.sharc_flat.specs.{declared.op.Op.Op, Machine.{Flat, function_of as flat_function}}
+use Rattle.sharc_flat.specs.{declared.op.Op.Op, Machine.{Flat}}
 use Rattle.sharc_flat.specs.declared.op.Op.TheVariants as op
 use Rattle.sharc_guard.specs.Known.{is_straight, leads_to, is_target, writes_ref, SimplePlace, in_variable, in_global}
 use Rattle.sharc_guard.specs.Known.{Access, access, tells, Know, place_of, known, drops}
 use Rattle.sharc_invariant.specs.Types.{Targets, AreTargets, StaticType, cells_of}
-use Rattle.sharc_invariant.specs.Labels.{Refers, Empty, Nth, Number, Anything, Exactly, OfElement, OfGlobal, Pass, IsIn}
-use Rattle.sharc_invariant.specs.Labels.{Label, Labels, IsScoped, without_base}
-use Rattle.sharc_invariant.specs.Typed.{IsPlace, Covers, AreGlobals, IsPlain, MayStart, ints_in, refs_in, entry_label}
-use Rattle.sharc_typed_laws.specs.{Inside.{FlatLabels, outside, passed_behind}, Lines.{TypedLine, To}}
+use Rattle.sharc_invariant.specs.Labels.{Refers, Empty, Nth, Number, Exactly, OfElement, OfGlobal, Pass, IsIn}
+use Rattle.sharc_invariant.specs.Labels.{Label, Labels, without_base}
+use Rattle.sharc_invariant.specs.Typed.{IsPlace, Covers, AreGlobals}
+use Rattle.sharc_typed_laws.specs.{Inside.{FlatLabels, passed_behind}, Lines.{HasTypedFunctions, TypedLine}}
 
 -- ---- what is remembered before each line
 abbrev pub is_write : Kind → Bool
@@ -133,14 +133,4 @@ pub record IsTypedAnyhow (x : Targets) (code : Code) (fl : FlatLabels) (flat : F
   -- the cells of globals that are accessed are none of granule 0
   pub low : (n : ℕ) (o : Op) (a : Access) (g place : ℕ) → slice_get flat.lines n ≡ Some o → access o ≡ Some a
       → place_of (known flat n) a.cell ≡ Some (in_global g place) → 2 ≤ place
-  pub end : fl.lines.at (length flat.lines) ≡ outside
-  pub owned : (n : ℕ) → n < length flat.lines → (f : ℕ) × ((fl.lines.at n).function ≡ Some f)
-  pub scoped : (n : ℕ) → n < length flat.lines
-      → IsScoped (ints_in code (fl.lines.at n).function) (refs_in code (fl.lines.at n).function) (fl.lines.at n)
-  pub entries : (f : ℕ) → f < length flat.functions
-      → To fl.lines (length flat.lines) (flat_function flat f).entry (entry_label fl.lines f)
-  pub plain : (f : ℕ) → IsPlain (fl.lines.signature f)
-  pub starts : (f : ℕ) → fl.lines.starts f ≡ true → MayStart code fl.lines f
-  pub main : fl.lines.starts code.main ≡ true
-  pub main_is : code.main < 2 ^ 64
-  pub main_number : (fl.lines.signature code.main).takes_ints 0 ≡ Anything
+  pub functions : HasTypedFunctions code fl flat

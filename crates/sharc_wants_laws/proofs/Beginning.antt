@@ -1,5 +1,5 @@
 -- A thread of a checked run begins with the function that its name says, which is main or one that some function spawns.
-use Rattle.sharc_wants_laws.proofs.{Imports.{◌≡◌, ℕ, ◌<◌, ◌⊎◌, inl, inr, List, Option, refl, sym, ◌∙◌, subst, ⊎_elim, IsTrue, codes, length, bytes_eq, Function, Spawns, function_at, NameThemselves, Assignment, History, Begun, IsNamedAt, IsSpawned, is_named_main, Code, function_of, MayStart, IsMainOf, HasThread, TellsIn, IsOfMain, IsSpawnedByCode, IsStartedBy, BeginsByRight}, Seeing.same_function}
+use Rattle.sharc_wants_laws.proofs.{Imports.{◌≡◌, ℕ, ◌<◌, inl, inr, List, Option, refl, sym, ◌∙◌, subst, ⊎_elim, IsTrue, codes, length, bytes_eq, Function, Spawns, function_at, NameThemselves, Assignment, History, Begun, IsNamedAt, IsSpawned, is_named_main, Code, function_of, MayStart, IsMainOf, HasThread, TellsIn, IsOfMain, IsSpawnedByCode, IsStartedBy, BeginsByRight, follows_with}, Seeing.same_function}
 
 main_is : (m : Assignment) (n : ℕ) → IsMainOf m n → IsTrue (is_named_main (function_at m.typed n))
 main_is m n is = subst (λ (o : Option Function). IsTrue (is_named_main o)) (sym is.1) (subst (λ (text : List ℕ). IsTrue (bytes_eq text (codes "main"))) (sym is.2) refl)
@@ -30,24 +30,4 @@ module _ (m : Assignment) (code : Code) (names : NameThemselves m.typed) (main :
   }
 
 pub has_begun : (m : Assignment) (R : History) (thread : ℕ) (tells : TellsIn m R thread) → BeginsByRight m tells.before thread tells.function tells.argument → (b : Begun m R thread) × MayStart m b.own.function
-has_begun m R thread tells begins = let asked = tells.asked begins.may in (
-  record {
-    fuel = asked.0;
-    own = record {
-      function = tells.function;
-      argument = tells.argument;
-      before = tells.before;
-      begins = tells.begins;
-      after = tells.after;
-      stands = tells.stands;
-      own = tells.own;
-      first = tells.first;
-      act = tells.act;
-      answer = tells.answer;
-      site = tells.site;
-      by_right = begins.right;
-      asked = asked.1;
-    };
-  },
-  begins.may,
-)
+has_begun m R thread tells begins = let asked = tells.asked begins.may in (record { fuel = asked.0; own = follows_with m R thread tells begins asked.0 asked.1 }, begins.may)

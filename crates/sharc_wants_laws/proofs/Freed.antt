@@ -7,12 +7,7 @@ no_last [] e h = cc
 no_last (x ∷ before) e h = cc
 
 last_same : (a b : List SourceEvent) (x y : SourceEvent) → a ++ x ∷ [] ≡ b ++ y ∷ [] → x ≡ y
-last_same [] [] x y h = cc
-last_same [] (c ∷ []) x y h = absurd (cc)
-last_same [] (c ∷ d ∷ b) x y h = absurd (cc)
-last_same (c ∷ []) [] x y h = absurd (cc)
-last_same (c ∷ d ∷ a) [] x y h = absurd (cc)
-last_same (c ∷ a) (d ∷ b) x y h = let tails : a ++ x ∷ [] ≡ b ++ y ∷ [] = cc in last_same a b x y tails
+last_same a b x y h = let ends : x ∷ reverse a ≡ y ∷ reverse b = sym (reverse-append a (x ∷ [])) ∙ ap reverse h ∙ reverse-append b (y ∷ []) in cc
 
 -- ---- one event more
 module _ (R : List SourceEvent) (e : SourceEvent) where

@@ -19,4 +19,4 @@ pub use Rattle.sharc_invariant.specs.{Granules.{one, sum_to}, Labels.{Closed, Ga
 pub use Rattle.sharc_accepted_laws.specs.{Pointers.{GlobalsPoint, IsPointerInTable, PointersAreOfGlobals}, TargetLaws.HasTables, Targets.targets_of}
 pub use Rattle.sharc_history_laws.specs.{Followed.{ChecksAreFollowed, IsFollowed, IsLocked}, History.history_of, Kept.{GlobalPointersAreKept, Grows, MadePointersAreKept, OthersAreInitial}, Made.PointersAreMade, Paths.PathsAreConsistent, Reports.{CastReportsShow, FindsOthers, InArgument, InCell, InHand, InLog, InRegister, OtherReference}, Seen.{IsGivenTo, RunsBegin}, SeenCells.{CellsAreSeen, IsBeingFreed, is_clearing}, Starts.{IsOfMain, IsSpawnedByCode, IsStartedBy}, Stores.BeginsWith}
 pub use Rattle.sharc_compile_laws.specs.{Started.HasThread, Threads.TellsIn}
-pub use Rattle.sharc_wants_laws.specs.{Alone.{Passes, objects_there, tested_object}, Cause.{NothingIsInFlight, ShowsReference}, Cells.{CellsSee, IsSeenInCell, in_freed, in_global, in_made}, Elsewhere.{ArgumentsSee, LogsSee}, Emptying.{IsEmptying, is_emptying}, Freeing.{EmptiersTookLast, IsBeingTaken, LastTakersFree, TakenAreBeingTaken, TakesLast}, Hands.{FreesEmpty, HandsFly}, Held.{HeldAreHeldOn, released, releases}, Holding.{IsAccounted, IsHolding, IsHoldingIn, IsHoldingThere, IsLowered, IsTested, PathsHold, lowered_of}, InFlight.{IsInFlight, IsPastEvents, is_emptied, is_given, is_replaced}, Only.{ArgumentsHoldNone, CellsHoldNone, FreedAreTaken, MutexesHoldNone, ThreadsHoldNone}, Registered.{HoldsRegistered, IsLoadedHere, IsPlaceOf, IsRegistered}, Seeing.{CastersHold, TestersGive, ThreadsSee}, Silent.{HasNothing, SilentHaveNothing}, Sole.{AreQuiet, HaveBegun, IsSeen, NoneIsInFlight, RegistersAreSeen}, Waits.CodeWaits, Wants.{BeginsWithStarted, BeginsWithStartedIn, IsNotThere, IsThere, IsThereIn, IsWhere, PathsWant, StopsOrWantsUnder, WantsAccess, WantsAct, WantsBy, access_at, access_tested}, Beginning.{BeginsByRight, ThreadsHaveBegun}}
+pub use Rattle.sharc_wants_laws.specs.{Alone.{Passes, objects_there, tested_object}, Cause.{NothingIsInFlight, ShowsReference}, Cells.{CellsSee, IsSeenInCell, in_freed, in_global, in_made}, Elsewhere.{ArgumentsSee, LogsSee}, Emptying.{IsEmptying, is_emptying}, Freeing.{EmptiersTookLast, IsBeingTaken, LastTakersFree, TakenAreBeingTaken, TakesLast}, Hands.{FreesEmpty, HandsFly}, Held.{HeldAreHeldOn, released, releases}, Holding.{IsAccounted, IsHolding, IsHoldingIn, IsHoldingThere, IsLowered, IsTested, PathsHold, lowered_of}, InFlight.{IsInFlight, IsPastEvents, is_emptied, is_given, is_replaced}, Only.{ArgumentsHoldNone, CellsHoldNone, FreedAreTaken, MutexesHoldNone, ThreadsHoldNone}, Registered.{HoldsRegistered, IsLoadedHere, IsPlaceOf, IsRegistered}, Seeing.{CastersHold, TestersGive, ThreadsSee}, Silent.{HasNothing, SilentHaveNothing}, Sole.{AreQuiet, HaveBegun, IsSeen, NoneIsInFlight, RegistersAreSeen}, Waits.CodeWaits, Wants.{BeginsWithStarted, BeginsWithStartedIn, IsNotThere, IsThere, IsThereIn, IsWhere, PathsWant, StopsOrWantsUnder, WantsAccess, WantsAct, WantsBy, access_at, access_tested}, Beginning.{BeginsByRight, ThreadsHaveBegun, follows_with}}

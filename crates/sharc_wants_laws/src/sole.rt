@@ -2,7 +2,7 @@
 
 ghost use Rattle.sharc_compile_laws.specs.Paths.{OfTyped};
 ghost use Rattle.sharc_wants_laws.specs.{Alone.PassedAreAlone, Cause.CastReportsShowCause};
-ghost use Rattle.sharc_wants_laws.specs.Beginning.{ThreadsBeginByRight, ThreadsHaveBegun};
+ghost use Rattle.sharc_wants_laws.specs.Beginning.{FunctionsAreOneByName, ThreadsBeginByRight, ThreadsHaveBegun};
 ghost use Rattle.sharc_wants_laws.specs.{Elsewhere.{ArgumentsSee, LogsSee}, Hands.{FreesEmpty, HandsFly}};
 ghost use Rattle.sharc_wants_laws.specs.{Cells.CellsSee, Holding.{PathsHold, ThreadsHold}};
 ghost use Rattle.sharc_wants_laws.specs.Only.{
@@ -144,6 +144,13 @@ pub fn registers_seen()
 {
     threads_see();
     casters_hold();
+}
+
+/// Two functions at one name are one.
+pub fn functions_are_one_by_name()
+    ensures { FunctionsAreOneByName }
+{
+    each_names_itself();
 }
 
 /// A thread of a checked run of typed code begins with a function that may be started: with main, or by a Spawn before.

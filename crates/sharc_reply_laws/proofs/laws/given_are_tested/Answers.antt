@@ -3,7 +3,7 @@ use Rattle.sharc_reply_laws.proofs.laws.given_are_tested.Goals as goal
 
 pub returns : goal.returns
 returns c = λ m typed flat flattens fits code is x s ls wt shape few run checked t site count wants_it finds.
-    given_is m (c.each_names_itself.ensures m.typed typed.resolved typed.placed typed.low) code s run t site count wants_it (c.testers_give.ensures m typed flat flattens fits code is) checked
+    given_is m (c.functions_are_one_by_name.ensures m.typed typed.resolved typed.placed typed.low) code s run t site count wants_it (c.testers_give.ensures m typed flat flattens fits code is) checked
     (c.paths_law.ensures x code s ls wt shape few run checked) (c.threads_have_begun.ensures m typed flat flattens fits code is x s ls wt shape few run checked t)
     finds.register (is_test c.refused_stay.ensures.tests x code s ls run checked t site count finds)
     ∙ same_object c.refused_stay.ensures.tests x code s ls run checked t site count finds

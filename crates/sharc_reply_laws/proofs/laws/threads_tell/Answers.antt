@@ -3,7 +3,7 @@ use Rattle.sharc_reply_laws.proofs.laws.threads_tell.Goals as goal
 
 pub returns : goal.returns
 returns c = λ m typed flat flattens fits code is x s ls wt shape few run checked thread.
-    tells m code (c.each_names_itself.ensures m.typed typed.resolved typed.placed typed.low) (history_of code s run) thread ((place_after code s run).threads thread)
+    tells m code (c.functions_are_one_by_name.ensures m.typed typed.resolved typed.placed typed.low) (history_of code s run) thread ((place_after code s run).threads thread)
     (reverse (told_in (said_by thread (Erase code s run)))) (lowered_of code s run thread) (counted_turns code s run thread)
     (c.turns_tell_own.ensures code s run thread)
     (c.threads_have_begun.ensures m typed flat flattens fits code is x s ls wt shape few run checked thread)
