@@ -157,10 +157,6 @@ pub act_by : (text kind rest : Text) → (text ≡ codes "return" → ⊥) → (
 act_by text kind rest no_return no_gone cut no_spawn None h = no_act_plain text kind rest no_return no_gone cut no_spawn h
 act_by text kind rest no_return no_gone cut no_spawn (Some a) h = act_of text kind rest cut a h
 
-pub none_act : (text : Text) (r : Option LineAct) → r ≡ None → MatchOption r ((a : LineAct) → IsAct a text → ⊥) (λ a. IsAct a text) → (a : LineAct) → IsAct a text → ⊥
-none_act text None e h = h
-none_act text (Some a) e h = absurd (let z : Some a ≡ None = e in cc)
-
 -- ---- lines
 
 pub line_parts : (text n rest : Text) → IsCut 32 text n rest → (l : EventLine) → IsEventLine text l → IsNumber 0 thread_most n l.thread × IsAct l.act rest

@@ -1,5 +1,5 @@
 -- Event files, read line by line.
-use Rattle.sharc_audit.proofs.{Imports.{append-nil, ◌≡◌, inl, inr, ℕ, suc, ◌+◌, ◌-◌, ◌<◌, ◌≤◌, Bool, cond, true, false, List, [], ◌∷◌, ◌++◌, length, length-append, take, drop, All, refl, ap, sym, subst, ◌∙◌, arith, append_assoc, or_parts, false≢true, All-push, All-head, All-tail, Option, Some, None, MatchOption, nat_eq, codes, list_any, slice_split, join_with_byte, onto_first, EventLine, FileFault, Text, IsCut, IsNumber, mark, without_empty_end, text_lines, AreEventLines, IsEventLine, IsEventFile, Continues, IsFirstBad, HasMany, IsFirstLine, IsNoHeader, IsHead, IsBadEvent, IsEventsFault, length_push}, Numerals.is_decimal}
+use Rattle.sharc_audit.proofs.{Imports.{append-nil, take-append-add, take-append_seam, ◌≡◌, inl, inr, ℕ, suc, ◌+◌, ◌-◌, ◌<◌, ◌≤◌, Bool, cond, true, false, List, [], ◌∷◌, ◌++◌, length, length-append, take, drop, All, refl, ap, sym, subst, ◌∙◌, arith, append_assoc, or_parts, false≢true, All-push, All-head, All-tail, nat_eq, codes, list_any, slice_split, join_with_byte, onto_first, EventLine, FileFault, Text, IsCut, IsNumber, mark, without_empty_end, text_lines, AreEventLines, IsEventLine, IsEventFile, Continues, IsFirstBad, HasMany, IsFirstLine, IsNoHeader, IsHead, IsBadEvent, IsEventsFault, length_push}, Numerals.is_decimal}
 use Rattle.sharc_audit.specs.Files.{IsFault}
 
 -- ---- a line
@@ -74,17 +74,8 @@ ended_join : (t : Text) (texts : List Text) → ended (t ∷ texts) ≡ join_wit
 ended_join t [] = refl
 ended_join t (u ∷ texts) = ap (λ z. t ++ 10 ∷ z) (ended_join u texts) ∙ sym (append_assoc t (10 ∷ join_with_byte 10 (u ∷ texts)) (10 ∷ []))
 
-take_front : {X : Type 0} (a b : List X) → take (length a) (a ++ b) ≡ a
-take_front [] b = refl
-take_front (x ∷ a) b = ap (λ z. x ∷ z) (take_front a b)
-
 take_one_more : {X : Type 0} (a : List X) (x : X) (b : List X) → take (suc (length a)) (a ++ x ∷ b) ≡ a ++ x ∷ []
-take_one_more [] x b = refl
-take_one_more (y ∷ a) x b = ap (λ z. y ∷ z) (take_one_more a x b)
-
-length_more : {X : Type 0} (a : List X) (x : X) (b : List X) → length a < length (a ++ x ∷ b)
-length_more [] x b = omega arith
-length_more (y ∷ a) x b = let h = length_more a x b in omega (arith, h)
+take_one_more a x b = ap (λ n. take n (a ++ x ∷ b)) (omega arith) ∙ take-append-add a (x ∷ b) 1
 
 -- ---- the header
 
@@ -175,7 +166,7 @@ heading_end bytes rest n h e =
     subst (λ z. IsFirstBad z n) (sym whole) (record {
       place = length h.passed;
       counted = h.counted;
-      before = subst Continues (sym (ap (take (length h.passed)) (sym (append-nil h.passed)) ∙ take_front h.passed [])) (continues_source h.passed h.plain);
+      before = subst Continues (sym (ap (take (length h.passed)) (sym (append-nil h.passed)) ∙ take-append_seam h.passed [])) (continues_source h.passed h.plain);
       fails = inr (refl, no_file h.passed h.plain);
     })
 
@@ -185,8 +176,8 @@ bad_there texts passed line more n e counted before bad =
     subst (λ z. IsFirstBad z n) (sym e) (record {
       place = length passed;
       counted = counted;
-      before = subst Continues (sym (take_front passed (line ∷ more))) before;
-      fails = inl (length_more passed line more, λ c. bad (subst Continues (take_one_more passed line more) c));
+      before = subst Continues (sym (take-append_seam passed (line ∷ more))) before;
+      fails = inl ((let k = length-append passed (line ∷ more) in omega (arith, k)), λ c. bad (subst Continues (take_one_more passed line more) c));
     })
 
 bad_header : (passed : List Text) (line header : Text) → 0 < length passed → All IsNoHeader (behind_first passed) → line ≡ mark ++ header → ((k : ℕ) → IsNumber 1 65536 header k → ⊥) → Continues (passed ++ line ∷ []) → ⊥
@@ -203,14 +194,10 @@ heading_bad bytes rest n line behind header h l some e bad =
     (bad_header h.passed line header (let a = h.counted in omega (arith, a, some)) h.plain e bad)
 
 source_of : (a b c : Text) → c ≡ (a ++ 10 ∷ []) ++ b → take (length c - length b - 1) c ≡ a
-source_of a b c e = ap (λ z. take (length z - length b - 1) z) e ∙ ap (λ z. take z ((a ++ 10 ∷ []) ++ b)) (sized a b) ∙ ap (take (length a)) (append_assoc a (10 ∷ []) b) ∙ take_front a (10 ∷ b)
+source_of a b c e = ap (λ z. take (length z - length b - 1) z) e ∙ ap (λ z. take z ((a ++ 10 ∷ []) ++ b)) (sized a b) ∙ ap (take (length a)) (append_assoc a (10 ∷ []) b) ∙ take-append_seam a (10 ∷ b)
   where
     sized : (a b : Text) → length ((a ++ 10 ∷ []) ++ b) - length b - 1 ≡ length a
-    sized a b = let k = total a b in omega (arith, k)
-      where
-        total : (a b : Text) → length ((a ++ 10 ∷ []) ++ b) ≡ length a + 1 + length b
-        total [] b = omega arith
-        total (x ∷ a) b = let k = total a b in omega (arith, k)
+    sized a b = let k = length-append (a ++ 10 ∷ []) b in let m = length-append a (10 ∷ []) in omega (arith, k, m)
 
 pub heading_found : (bytes rest : Text) (n : ℕ) (line behind header source : Text) (fuel : ℕ) → Heading bytes rest n → 0 < length rest → IsFirstLine rest line behind → 1 < n → line ≡ mark ++ header → IsNumber 1 65536 header fuel
     → source ≡ take (length bytes - length rest - 1) bytes → n + length rest ≤ length bytes + 1 → IsHead bytes source fuel behind (n + 1)
@@ -238,18 +225,18 @@ pub record Listing (texts : List Text) (rest : Text) (first n : ℕ) (events : L
   pub counted : n ≡ first + length passed
   pub are : AreEventLines passed events
 
-are_push : (passed : List Text) (events : List EventLine) (line : Text) (l : EventLine) → AreEventLines passed events → IsEventLine line l → AreEventLines (passed ++ line ∷ []) (events ++ l ∷ [])
-are_push [] [] line l a h = (h, tt)
-are_push [] (k ∷ events) line l a h = absurd a
-are_push (t ∷ passed) [] line l a h = absurd a
-are_push (t ∷ passed) (k ∷ events) line l a h = (a.0, are_push passed events line l a.1 h)
+are_append : (a b : List Text) (l m : List EventLine) → AreEventLines a l → AreEventLines b m → AreEventLines (a ++ b) (l ++ m)
+are_append [] b [] m h k = k
+are_append [] b (x ∷ l) m h k = absurd h
+are_append (t ∷ a) b [] m h k = absurd h
+are_append (t ∷ a) b (x ∷ l) m h k = (h.0, are_append a b l m h.1 k)
 
 pub listing_next : (texts : List Text) (rest : Text) (first n : ℕ) (events : List EventLine) (line behind : Text) (l : EventLine) → Listing texts rest first n events → IsFirstLine rest line behind → IsEventLine line l → Listing texts behind first (n + 1) (events ++ l ∷ [])
 listing_next texts rest first n events line behind l h f is = record {
   passed = h.passed ++ line ∷ [];
   parts = h.parts ∙ ap (λ z. h.passed ++ z) f.lines ∙ sym (append_assoc h.passed (line ∷ []) (text_lines behind));
   counted = (let a = h.counted in let b = length_push h.passed line in omega (arith, a, b));
-  are = are_push h.passed events line l h.are is;
+  are = are_append h.passed (line ∷ []) events (l ∷ []) h.are (is, tt);
 }
 
 pub listing_bad : (texts : List Text) (rest : Text) (first n : ℕ) (events : List EventLine) (line behind : Text) → Listing texts rest first n events → IsFirstLine rest line behind → ((l : EventLine) → IsEventLine line l → ⊥) → IsBadEvent texts first n
@@ -285,7 +272,7 @@ file_bad bytes source fuel behind first n h b =
     let apart : (h.first ∷ h.more) ++ (mark ++ h.header) ∷ (b.passed ++ b.line ∷ b.more) ≡ passed ++ b.line ∷ b.more = sym (append_assoc (h.first ∷ h.more) ((mark ++ h.header) ∷ b.passed) (b.line ∷ b.more)) in
     bad_there (text_lines bytes) passed b.line b.more n
     (h.lines ∙ ap (λ z. (h.first ∷ h.more) ++ (mark ++ h.header) ∷ z) b.parts ∙ apart)
-    (let k = counts h.more (mark ++ h.header) b.passed in let c = b.counted in let d = h.counted in omega (arith, k, c, d))
+    (let k = length-append h.more ((mark ++ h.header) ∷ b.passed) in let c = b.counted in let d = h.counted in omega (arith, k, c, d))
     (record { rest = []; source = source; fuel = fuel; events = b.events; file = subst (λ z. IsEventFile z source fuel b.events) (sym (append-nil passed)) (record { first = h.first; more = h.more; header = h.header; behind = b.passed; parts = refl; plain = h.plain; fuel_is = h.fuel_is; events_are = b.are; source_is = h.source_is }) })
     (λ c.
     let f = c.file in
@@ -293,18 +280,6 @@ file_bad bytes source fuel behind first n h b =
     let tails : h.more ++ (mark ++ h.header) ∷ (b.passed ++ b.line ∷ c.rest) ≡ f.more ++ (mark ++ f.header) ∷ f.behind = ap behind_first (sym whole ∙ f.parts) in
     let same : b.passed ++ b.line ∷ c.rest ≡ f.behind = (one_header h.more f.more h.header (b.passed ++ b.line ∷ c.rest) f.behind f.header h.plain f.plain tails).behind in
     event_there b.passed b.line c.rest c.events b.bad (subst (λ z. AreEventLines z c.events) (sym same) f.events_are))
-  where
-    counts : (a : List Text) (x : Text) (b : List Text) → length (a ++ x ∷ b) ≡ length a + 1 + length b
-    counts [] x b = omega arith
-    counts (y ∷ a) x b = let k = counts a x b in omega (arith, k)
-
-pub some_line : (text : Text) (r : Option EventLine) (l : EventLine) → r ≡ Some l → MatchOption r ((k : EventLine) → IsEventLine text k → ⊥) (λ k. IsEventLine text k) → IsEventLine text l
-some_line text None l e h = absurd (let z : None ≡ Some l = e in cc)
-some_line text (Some k) l e h = let z : k ≡ l = cc in subst (IsEventLine text) z h
-
-pub no_line : (text : Text) (r : Option EventLine) → r ≡ None → MatchOption r ((k : EventLine) → IsEventLine text k → ⊥) (λ k. IsEventLine text k) → (l : EventLine) → IsEventLine text l → ⊥
-no_line text None e h = h
-no_line text (Some k) e h = absurd (let z : Some k ≡ None = e in cc)
 
 pub fault_of : (bytes source : Text) (fuel : ℕ) (behind : Text) (first : ℕ) (f : FileFault) → IsHead bytes source fuel behind first → IsEventsFault 4097 (text_lines behind) first f → IsFault (text_lines bytes) f
 fault_of bytes source fuel behind first (FileFault.Line n) h b = file_bad bytes source fuel behind first n h b
@@ -312,12 +287,6 @@ fault_of bytes source fuel behind first FileFault.Many h b = many_of bytes sourc
 fault_of bytes source fuel behind first FileFault.Memory h b = b
 
 -- ---- events after those that are audited
-
-are_append : (a b : List Text) (l m : List EventLine) → AreEventLines a l → AreEventLines b m → AreEventLines (a ++ b) (l ++ m)
-are_append [] b [] m h k = k
-are_append [] b (x ∷ l) m h k = absurd h
-are_append (t ∷ a) b [] m h k = absurd h
-are_append (t ∷ a) b (x ∷ l) m h k = (h.0, are_append a b l m h.1 k)
 
 -- a fault of the rest is one of the whole, which has more events
 pub further_fault : (least : ℕ) (texts : List Text) (rest : Text) (first n : ℕ) (events : List EventLine) (f : FileFault) → Listing texts rest first n events → least ≤ length events → IsEventsFault 0 (text_lines rest) n f

@@ -1,5 +1,5 @@
 -- What the proofs cite of std, of other crates and of this crate's definitions, passed on from one place.
-pub use Rattle.std.proofs.{Common.{All, Bool, Err, List, None, Ok, Option, Some, [], add-one, ap, append-nil, append_assoc, arith, cond, drop, drop-cons, false, inl, inr, length, length-append, length-drop, map, not, refl, rules, slice_index_or, subst, suc, sym, take, take-suc, true, zero, ℕ, ◌*◌, ◌++◌, ◌+◌, ◌-◌, ◌<◌, ◌^◌, ◌||◌, ◌∙◌, ◌∷◌, ◌≡◌, ◌≤◌, ◌⊎◌}, lemmas.Bool.{cases_Bool, and_from, and_parts, and_right, both_ways, cases_order, eq-eqb, eqb-true, false≢true, iff_false, ltb-false, ltb-true, ne_eqb, or_cases, or_from, or_left, or_parts, or_right}, lemmas.Bool.Decides.nat_tests, lemmas.Fmt.{decimal-digits_value, decimal_by_steps, digits_decimal, digits_value-decimal, length-decimal-le}, lemmas.List.{length-take, take-append-drop, take-take}, lemmas.List.Elements.{All-head, All-push, All-tail}, lemmas.List.Folds.list_any-append, lemmas.Result.err_from_is_err_and, lemmas.Slice.Eq.bytes_eq-Decides, lemmas.Str.Parse.{IsNumeralModel, digits_value_short, numerals_by_fold}}
+pub use Rattle.std.proofs.{Math.Seq.{take-append-add, take-append_seam}, Common.{All, Bool, Err, List, None, Ok, Option, Some, [], add-one, ap, append-nil, append_assoc, arith, cond, drop, drop-cons, false, inl, inr, length, length-append, length-drop, map, not, refl, rules, slice_index_or, subst, suc, sym, take, take-suc, true, zero, ℕ, ◌*◌, ◌++◌, ◌+◌, ◌-◌, ◌<◌, ◌^◌, ◌||◌, ◌∙◌, ◌∷◌, ◌≡◌, ◌≤◌, ◌⊎◌}, lemmas.Bool.{cases_Bool, and_from, and_parts, and_right, both_ways, cases_order, eq-eqb, eqb-true, false≢true, iff_false, ltb-false, ltb-true, ne_eqb, or_cases, or_from, or_left, or_parts, or_right}, lemmas.Bool.Decides.nat_tests, lemmas.Fmt.{decimal-digits_value, decimal_by_steps, digits_decimal, digits_value-decimal, length-decimal-le}, lemmas.List.{length-take, take-append-drop, take-take}, lemmas.List.Elements.{All-head, All-push, All-tail}, lemmas.List.Folds.list_any-append, lemmas.Option.{MatchOption-at_none, MatchOption-at_some}, lemmas.Result.err_from_is_err_and, lemmas.Slice.Eq.bytes_eq-Decides, lemmas.Str.Parse.{IsNumeralModel, digits_value_short, numerals_by_fold}}
 pub use Rattle.std.specs.{Char.is_ascii_digit, HashMap.{HashMap, get}, List.{join_with_byte, list_all, list_any, onto_first, slice_split}, Prelude.{Any, IfOk, IsTrue, MatchOption, OnOk, Result, codes, decimal, find, if◌then◌else◌, is_ok, min, nat_eq, nat_lt, negsuc, pos, slice_get, slice_set, ℤ, ◌&&◌, ◌==◌, ◌≢◌}, Str.{all_ascii_digits, bytes_eq}, declared.vec.Vec.Vec}
 pub use Rattle.sharc_lemmas.proofs.Lists.{find_none, length_push, map_both, map_length, pick}
 pub use Rattle.sharc_tree.specs.{Tree.Function, View.view_function, declared.event.Act.Act, declared.event.CellAt.CellAt, declared.event.Object.Object, declared.event.Object.TheVariants.{Global, Made}, declared.event.SourceEvent.SourceEvent, declared.event.Taken.TheVariants.{Cell, Local}}

@@ -1,6 +1,7 @@
--- A text is one event file at most, and then has no fault; and the first line that continues no file is one.
-use Rattle.std.specs.Prelude.{◌≡◌, ℕ, List}
-use Rattle.sharc_audit.specs.{declared.line.EventLine.EventLine, Grammar.{Text, IsEventFile, IsFirstBad}}
+-- A text is one event file at most, and then has no fault; the first line that continues no file is one; and what the
+-- lines of a text are.
+use Rattle.std.specs.{Prelude.{◌≡◌, ℕ, false, nat_eq, List, ◌∷◌, ◌++◌}, List.list_any}
+use Rattle.sharc_audit.specs.{declared.line.EventLine.EventLine, Grammar.{Text, text_lines, IsEventFile, IsFirstBad}}
 
 abbrev pub FilesAreOne : Type 0
 FilesAreOne =
@@ -15,7 +16,13 @@ FilesHaveNoFault = (texts : List Text) (source : Text) (fuel : ℕ) (events : Li
 abbrev pub FaultsAreOne : Type 0
 FaultsAreOne = (texts : List Text) (n m : ℕ) → IsFirstBad texts n → IsFirstBad texts m → n ≡ m
 
+-- what stands before the first newline is a line, and those behind it are the others
+abbrev pub LinesAreCut : Type 0
+LinesAreCut = (line behind : Text)
+    → list_any (nat_eq 10) line ≡ false → text_lines (line ++ 10 ∷ behind) ≡ line ∷ text_lines behind
+
 pub record FileLaws : Type 0 where
   pub file : FilesAreOne
   pub faultless : FilesHaveNoFault
   pub fault : FaultsAreOne
+  pub lines : LinesAreCut

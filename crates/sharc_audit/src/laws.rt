@@ -27,7 +27,8 @@ pub fn runs_never_fail()
     entry_laws();
 }
 
-/// A text is one event file at most, and then no line is the first that continues none; and that line is one.
+/// A text is one event file at most, and then no line is the first that continues none; that line is one; and a text
+/// with a newline has what stands before it as its first line.
 pub fn file_laws()
     ensures { FileLaws }
 {}

@@ -11,11 +11,10 @@ use sharc_names::fault::Named;
 use sharc_tree::tree::{Expr, FieldOperator};
 use std::alloc::AllocError;
 
-pub(crate) fn reads(
-    variable: Option<u32>,
-    token: u32,
-    steps: &mut Vec<Step>,
-) -> Result<(), AllocError>
+/// Whether the steps could be added: nothing but memory can be lacking.
+pub(crate) type Stepped = Result<(), AllocError>;
+
+pub(crate) fn reads(variable: Option<u32>, token: u32, steps: &mut Vec<Step>) -> Stepped
     ensures { OnOk result (steps.new.items ≡ steps.old.items ++ listing (reads variable token)) }
 {
     if let Some(x) = variable {
@@ -24,11 +23,7 @@ pub(crate) fn reads(
     Ok(())
 }
 
-pub(crate) fn nulls(
-    variable: Option<u32>,
-    token: u32,
-    steps: &mut Vec<Step>,
-) -> Result<(), AllocError>
+pub(crate) fn nulls(variable: Option<u32>, token: u32, steps: &mut Vec<Step>) -> Stepped
     ensures { OnOk result (steps.new.items ≡ steps.old.items ++ listing (nulls variable token)) }
 {
     if let Some(x) = variable {
@@ -37,7 +32,7 @@ pub(crate) fn nulls(
     Ok(())
 }
 
-pub(crate) fn writes(variable: Option<u32>, steps: &mut Vec<Step>) -> Result<(), AllocError>
+pub(crate) fn writes(variable: Option<u32>, steps: &mut Vec<Step>) -> Stepped
     ensures { OnOk result (steps.new.items ≡ steps.old.items ++ listing (writes variable)) }
 {
     if let Some(x) = variable {

@@ -1,12 +1,13 @@
 -- Going over a row from its first target down.
-use Rattle.sharc_suggest.proofs.Imports.{◌≡◌, ℕ, ◌+◌, ◌<◌, ◌≤◌, Bool, true, false, ◌&&◌, List, ◌∷◌, length, drop, not, Some, ap, sym, ◌∙◌, subst, Entry, Resolution, pointed, Assignment, RowLaws, Targets, deeper, modes_of, Sharing, same_all, keeps, keeps_all, differ_first}
+use Rattle.sharc_suggest.proofs.Imports.{◌≡◌, ℕ, ◌+◌, ◌<◌, ◌≤◌, Bool, true, false, ◌&&◌, List, ◌∷◌, length, drop, not, Some, ap, sym, ◌∙◌, subst, arith, Entry, Resolution, pointed, Assignment, RowLaws, position_count, Targets, deeper, modes_of, Sharing, same_all, keeps, keeps_all, differ_first}
 
-pub step_row : (laws : RowLaws) (m : Assignment) (row next : Targets) (s : Sharing) → 0 < row.count → row.first + row.count ≤ length m.modes → s ≡ pointed m (Some row) → next ≡ deeper row → modes_of m row ≡ s ∷ modes_of m next
-step_row laws m row next s some ends s_is next_is =
-    laws.begins m row some ends ∙ ap (λ x. x ∷ modes_of m (deeper row)) (sym s_is) ∙ ap (λ r. s ∷ modes_of m r) (sym next_is)
-
-pub step_ends : (laws : RowLaws) (limit : ℕ) (row next : Targets) → row.first + row.count ≤ limit → next ≡ deeper row → next.first + next.count ≤ limit
-step_ends laws limit row next ends next_is = subst (λ (r : Targets). r.first + r.count ≤ limit) (sym next_is) (laws.ends limit row ends)
+-- a row and what is below its first target
+pub step_on : (laws : RowLaws) (m : Assignment) (row next : Targets) (s : Sharing) → length m.modes ≡ position_count m.typed → 0 < row.count → row.first + row.count ≤ position_count m.typed → s ≡ pointed m (Some row) → next ≡ deeper row
+    → (next.first + next.count ≤ position_count m.typed) × (modes_of m row ≡ s ∷ modes_of m next)
+step_on laws m row next s whole some ends s_is next_is = (
+  subst (λ (r : Targets). r.first + r.count ≤ position_count m.typed) (sym next_is) (laws.ends (position_count m.typed) row ends),
+  laws.begins m row some (omega (arith, ends, whole)) ∙ ap (λ x. x ∷ modes_of m (deeper row)) (sym s_is) ∙ ap (λ r. s ∷ modes_of m r) (sym next_is),
+)
 
 pub kept_one : (r : Resolution) (scope : List Entry) (all rest : List Sharing) (s : Sharing) (whole : Bool) → all ≡ s ∷ rest → keeps r scope s ≡ true → keeps_all r scope all ≡ whole → keeps_all r scope rest ≡ whole
 kept_one r scope all rest s whole all_is kept were = ap (λ b. b && keeps_all r scope rest) (sym kept) ∙ ap (keeps_all r scope) (sym all_is) ∙ were

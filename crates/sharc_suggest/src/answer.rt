@@ -23,7 +23,7 @@ fn casts(alloc: Global, program: &Moded, named: &NamedVariables) -> Result<Vec<C
     };
     let tree = program.typed().program();
     let mut casts = Vec::new(alloc);
-    items(alloc, known, tree.items.as_slice(), &mut casts)?;
+    items(known, tree.items.as_slice(), &mut casts)?;
     Ok(casts)
 }
 

@@ -14,13 +14,12 @@ use sharc_mode::error::Cast;
 use sharc_mode::row::Targets;
 use sharc_names::names::NamesInScope;
 use sharc_tree::tree::Expr;
-use std::alloc::{AllocError, Global};
+use std::alloc::AllocError;
 
 /// Adds the casts that are suggested in an expression.
 #[cycle(expr)]
 #[tactic(auto, using(crate::proofs::CallLemmas::suggested_both))]
 pub(crate) fn expression(
-    alloc: Global,
     known: Known<'_>,
     scope: &NamesInScope<'_>,
     expr: &Expr,
@@ -32,9 +31,9 @@ pub(crate) fn expression(
     match expr {
         Expr::Identifier(_, _) => Ok(()),
         Expr::Constant(_, _) => Ok(()),
-        Expr::Parentheses(_, inner) => expression(alloc, known, scope, inner, casts),
+        Expr::Parentheses(_, inner) => expression(known, scope, inner, casts),
         Expr::Call(_, name, list) => {
-            arguments(alloc, known, scope, name.site.token, list.as_slice(), casts)
+            arguments(known, scope, name.site.token, list.as_slice(), casts)
         }
         Expr::Spawn(_, name, argument) => {
             let typed = known.moded.typed();
@@ -44,20 +43,20 @@ pub(crate) fn expression(
                 passed: Passed::One(argument),
             };
             let want = expected(known.moded, passing, parameters);
-            value(alloc, known, scope, want, argument, casts)
+            value(known, scope, want, argument, casts)
         }
-        Expr::OnValue(_, _, value) => expression(alloc, known, scope, value, casts),
-        Expr::OnPlace(_, _, inner) => expression(alloc, known, scope, inner, casts),
-        Expr::Cast(_, _, from) => expression(alloc, known, scope, from, casts),
+        Expr::OnValue(_, _, value) => expression(known, scope, value, casts),
+        Expr::OnPlace(_, _, inner) => expression(known, scope, inner, casts),
+        Expr::Cast(_, _, from) => expression(known, scope, from, casts),
         Expr::Index(_, base, index) => {
-            expression(alloc, known, scope, base, casts)?;
-            expression(alloc, known, scope, index, casts)
+            expression(known, scope, base, casts)?;
+            expression(known, scope, index, casts)
         }
-        Expr::Field { base, .. } => expression(alloc, known, scope, base, casts),
-        Expr::Unary(_, _, operand) => expression(alloc, known, scope, operand, casts),
+        Expr::Field { base, .. } => expression(known, scope, base, casts),
+        Expr::Unary(_, _, operand) => expression(known, scope, operand, casts),
         Expr::Binary { left, right, .. } => {
-            expression(alloc, known, scope, left, casts)?;
-            expression(alloc, known, scope, right, casts)
+            expression(known, scope, left, casts)?;
+            expression(known, scope, right, casts)
         }
     }
 }
@@ -65,7 +64,6 @@ pub(crate) fn expression(
 /// Adds those that are suggested in a value that is given to what expects these modes, and of it.
 #[cycle(expr)]
 pub(crate) fn value(
-    alloc: Global,
     known: Known<'_>,
     scope: &NamesInScope<'_>,
     want: Option<Targets<'_>>,
@@ -78,14 +76,13 @@ pub(crate) fn value(
         → OnOk result (casts.new.items ≡ casts.old.items ++ suggested_in known.entry.moded.now
         (told known.entry.named.now) (value_givings scope.now r (view_expr expr.now))) }
 {
-    expression(alloc, known, scope, expr, casts)?;
-    repair(alloc, known, scope, want, expr, casts)
+    expression(known, scope, expr, casts)?;
+    repair(known, scope, want, expr, casts)
 }
 
 /// Adds those that are suggested in the arguments of a call of the function that this token names.
 #[cycle(expr)]
 fn arguments(
-    alloc: Global,
     known: Known<'_>,
     scope: &NamesInScope<'_>,
     function: u32,
@@ -105,7 +102,7 @@ fn arguments(
     let mut left = parameters;
     for expr in list {
         let want = expected(known.moded, passing, left);
-        value(alloc, known, scope, want, expr, casts)?;
+        value(known, scope, want, expr, casts)?;
         left = without_first(left);
     }
     Ok(())

@@ -198,7 +198,6 @@ fn cast_to(
 
 /// Adds the cast that is suggested for an expression where those modes are expected, if one is.
 pub(crate) fn repair(
-    alloc: Global,
     known: Known<'_>,
     scope: &NamesInScope<'_>,
     expected: Option<Targets<'_>>,
@@ -214,7 +213,7 @@ pub(crate) fn repair(
     match (expected, row_of(program.typed(), expr)) {
         (Some(expected), Some(found)) => {
             if is_repairable(known, scope, expr, expected, found) {
-                casts.push(cast_to(alloc, program, expr, expected)?)?;
+                casts.push(cast_to(*casts.allocator(), program, expr, expected)?)?;
             }
             Ok(())
         }

@@ -17,7 +17,7 @@ use sharc_mode::row::{PathReading, Targets, declared_row, row_of};
 use sharc_names::meaning::{Binding, Meaning};
 use sharc_names::names::NamesInScope;
 use sharc_tree::tree::{Declaration, Expr, ForFirst, ForHead, Item, Local, Right, Simple, Stmt};
-use std::alloc::{AllocError, Global};
+use std::alloc::AllocError;
 
 /// Puts a variable in scope.
 fn declare<'a>(scope: &mut NamesInScope<'a>, declaration: &'a Declaration) -> Result<(), AllocError>
@@ -31,7 +31,6 @@ fn declare<'a>(scope: &mut NamesInScope<'a>, declaration: &'a Declaration) -> Re
 }
 
 fn optional(
-    alloc: Global,
     known: Known<'_>,
     scope: &NamesInScope<'_>,
     expr: &Option<Expr>,
@@ -42,13 +41,12 @@ fn optional(
 {
     match expr {
         None => Ok(()),
-        Some(expr) => expression(alloc, known, scope, expr, casts),
+        Some(expr) => expression(known, scope, expr, casts),
     }
 }
 
 /// The right side of `=`, beside the modes that are expected there.
 fn right(
-    alloc: Global,
     known: Known<'_>,
     scope: &NamesInScope<'_>,
     want: Option<Targets<'_>>,
@@ -62,13 +60,12 @@ fn right(
         (told known.entry.named.now) (right_givings scope.now r (view_right right.now))) }
 {
     match right {
-        Right::Value(expr) => value(alloc, known, scope, want, expr, casts),
-        Right::Malloc(_, count, _) => optional(alloc, known, scope, count, casts),
+        Right::Value(expr) => value(known, scope, want, expr, casts),
+        Right::Malloc(_, count, _) => optional(known, scope, count, casts),
     }
 }
 
 fn simple(
-    alloc: Global,
     known: Known<'_>,
     scope: &NamesInScope<'_>,
     simple: &Simple,
@@ -79,16 +76,15 @@ fn simple(
 {
     match simple {
         Simple::Assign(_, place, value) => {
-            expression(alloc, known, scope, place, casts)?;
+            expression(known, scope, place, casts)?;
             let want = row_of(known.moded.typed(), place);
-            right(alloc, known, scope, want, value, casts)
+            right(known, scope, want, value, casts)
         }
-        Simple::Call(call) => expression(alloc, known, scope, call, casts),
+        Simple::Call(call) => expression(known, scope, call, casts),
     }
 }
 
 fn initial(
-    alloc: Global,
     known: Known<'_>,
     scope: &NamesInScope<'_>,
     want: Option<Targets<'_>>,
@@ -103,13 +99,12 @@ fn initial(
 {
     match value {
         None => Ok(()),
-        Some(value) => right(alloc, known, scope, want, value, casts),
+        Some(value) => right(known, scope, want, value, casts),
     }
 }
 
 /// A local, which is in scope in its initialiser and afterwards.
 fn local<'a>(
-    alloc: Global,
     known: Known<'_>,
     scope: &mut NamesInScope<'a>,
     local: &'a Local,
@@ -122,12 +117,11 @@ fn local<'a>(
     let token = local.declaration.name.site.token;
     let want = declared_row(known.moded.typed(), PathReading::Written, token);
     declare(scope, &local.declaration)?;
-    initial(alloc, known, scope, Some(want), &local.initial, casts)
+    initial(known, scope, Some(want), &local.initial, casts)
 }
 
 /// What comes first in the head of a `for`; what it declares is in scope afterwards.
 fn first<'a>(
-    alloc: Global,
     known: Known<'_>,
     scope: &mut NamesInScope<'a>,
     first: &'a ForFirst,
@@ -139,13 +133,12 @@ fn first<'a>(
 {
     match first {
         ForFirst::Nothing => Ok(()),
-        ForFirst::Declares(declared) => local(alloc, known, scope, declared, casts),
-        ForFirst::Does(x) => simple(alloc, known, scope, x, casts),
+        ForFirst::Declares(declared) => local(known, scope, declared, casts),
+        ForFirst::Does(x) => simple(known, scope, x, casts),
     }
 }
 
 fn step(
-    alloc: Global,
     known: Known<'_>,
     scope: &NamesInScope<'_>,
     step: &Option<Simple>,
@@ -156,14 +149,13 @@ fn step(
 {
     match step {
         None => Ok(()),
-        Some(x) => simple(alloc, known, scope, x, casts),
+        Some(x) => simple(known, scope, x, casts),
     }
 }
 
 /// The head of a `for`; what it declares is in scope afterwards.
 #[tactic(auto, using(crate::proofs::CallLemmas::suggested_both))]
 fn head<'a>(
-    alloc: Global,
     known: Known<'_>,
     scope: &mut NamesInScope<'a>,
     head: &'a ForHead,
@@ -173,14 +165,13 @@ fn head<'a>(
     ensures casts { OnOk result (casts.new.items ≡ casts.old.items ++ suggested_in known.entry.moded.now
         (told known.entry.named.now) (head_givings scope.old (view_head head.now))) }
 {
-    first(alloc, known, scope, &head.first, casts)?;
-    optional(alloc, known, scope, &head.test, casts)?;
-    step(alloc, known, scope, &head.step, casts)
+    first(known, scope, &head.first, casts)?;
+    optional(known, scope, &head.test, casts)?;
+    step(known, scope, &head.step, casts)
 }
 
 /// What is returned in the function whose name is the token with this number.
 fn returned(
-    alloc: Global,
     known: Known<'_>,
     scope: &NamesInScope<'_>,
     function: u32,
@@ -195,7 +186,7 @@ fn returned(
         None => Ok(()),
         Some(expr) => {
             let want = declared_row(known.moded.typed(), PathReading::Written, function);
-            value(alloc, known, scope, Some(want), expr, casts)
+            value(known, scope, Some(want), expr, casts)
         }
     }
 }
@@ -204,7 +195,6 @@ fn returned(
 #[cycle(statement)]
 #[tactic(auto, using(crate::proofs::ScopeLemmas::longer_first, crate::proofs::ScopeLemmas::left_first, crate::proofs::ScopeLemmas::longer_all, crate::proofs::ScopeLemmas::left_all, crate::proofs::CallLemmas::suggested_both))]
 fn statement<'a>(
-    alloc: Global,
     known: Known<'_>,
     scope: &mut NamesInScope<'a>,
     function: u32,
@@ -219,17 +209,17 @@ fn statement<'a>(
         Stmt::Empty(_) => Ok(()),
         Stmt::Block(_, all) => {
             let mark = scope.len();
-            statements(alloc, known, scope, function, all.as_slice(), casts)?;
+            statements(known, scope, function, all.as_slice(), casts)?;
             scope.leave(mark)?;
             Ok(())
         }
-        Stmt::Declare(_, declared) => local(alloc, known, scope, declared, casts),
-        Stmt::Simple(_, x) => simple(alloc, known, scope, x, casts),
+        Stmt::Declare(_, declared) => local(known, scope, declared, casts),
+        Stmt::Simple(_, x) => simple(known, scope, x, casts),
         Stmt::Jump(_, _) => Ok(()),
-        Stmt::Return(_, value) => returned(alloc, known, scope, function, value, casts),
+        Stmt::Return(_, value) => returned(known, scope, function, value, casts),
         Stmt::If(_, test, then) => {
-            expression(alloc, known, scope, test, casts)?;
-            nested(alloc, known, scope, function, then, casts)
+            expression(known, scope, test, casts)?;
+            nested(known, scope, function, then, casts)
         }
         Stmt::IfElse {
             test,
@@ -237,18 +227,18 @@ fn statement<'a>(
             otherwise,
             ..
         } => {
-            expression(alloc, known, scope, test, casts)?;
-            nested(alloc, known, scope, function, then, casts)?;
-            nested(alloc, known, scope, function, otherwise, casts)
+            expression(known, scope, test, casts)?;
+            nested(known, scope, function, then, casts)?;
+            nested(known, scope, function, otherwise, casts)
         }
         Stmt::While(_, test, body) => {
-            expression(alloc, known, scope, test, casts)?;
-            nested(alloc, known, scope, function, body, casts)
+            expression(known, scope, test, casts)?;
+            nested(known, scope, function, body, casts)
         }
         Stmt::For(_, parts, body) => {
             let mark = scope.len();
-            head(alloc, known, scope, parts, casts)?;
-            nested(alloc, known, scope, function, body, casts)?;
+            head(known, scope, parts, casts)?;
+            nested(known, scope, function, body, casts)?;
             scope.leave(mark)
         }
     }
@@ -258,7 +248,6 @@ fn statement<'a>(
 #[cycle(statement)]
 #[tactic(auto, using(crate::proofs::ScopeLemmas::longer_after, crate::proofs::ScopeLemmas::left_after))]
 fn nested<'a>(
-    alloc: Global,
     known: Known<'_>,
     scope: &mut NamesInScope<'a>,
     function: u32,
@@ -270,7 +259,7 @@ fn nested<'a>(
         (told known.entry.named.now) (givings_in scope.old function (view_stmt stmt.now))) }
 {
     let mark = scope.len();
-    statement(alloc, known, scope, function, stmt, casts)?;
+    statement(known, scope, function, stmt, casts)?;
     scope.leave(mark)
 }
 
@@ -278,7 +267,6 @@ fn nested<'a>(
 #[cycle(statement)]
 #[tactic(auto, using(crate::proofs::CallLemmas::suggested_both))]
 fn statements<'a>(
-    alloc: Global,
     known: Known<'_>,
     scope: &mut NamesInScope<'a>,
     function: u32,
@@ -290,7 +278,7 @@ fn statements<'a>(
         (told known.entry.named.now) (givings_in_all scope.old function (view_statements all.now))) }
 {
     for stmt in all {
-        statement(alloc, known, scope, function, stmt, casts)?;
+        statement(known, scope, function, stmt, casts)?;
     }
     Ok(())
 }
@@ -305,12 +293,7 @@ fn parameters<'a>(scope: &mut NamesInScope<'a>, list: &'a [Declaration]) -> Resu
     Ok(())
 }
 
-fn item(
-    alloc: Global,
-    known: Known<'_>,
-    item: &Item,
-    casts: &mut Vec<Cast>,
-) -> Result<(), AllocError>
+fn item(known: Known<'_>, item: &Item, casts: &mut Vec<Cast>) -> Result<(), AllocError>
     ensures { OnOk result (casts.new.items ≡ casts.old.items
         ++ suggested_in known.entry.moded.now (told known.entry.named.now) (item_givings (view_item item.now))) }
 {
@@ -318,11 +301,11 @@ fn item(
         Item::Struct(_) => Ok(()),
         Item::Global(_) => Ok(()),
         Item::Function(definition) => {
-            let mut scope = NamesInScope::new(alloc);
+            let mut scope = NamesInScope::new(*casts.allocator());
             parameters(&mut scope, definition.parameters.as_slice())?;
             let function = definition.name.site.token;
             let all = definition.statements.as_slice();
-            statements(alloc, known, &mut scope, function, all, casts)
+            statements(known, &mut scope, function, all, casts)
         }
     }
 }
@@ -330,7 +313,6 @@ fn item(
 /// Adds the casts that are suggested in items.
 #[tactic(auto, using(crate::proofs::CallLemmas::suggested_both))]
 pub(crate) fn items(
-    alloc: Global,
     known: Known<'_>,
     items: &[Item],
     casts: &mut Vec<Cast>,
@@ -339,7 +321,7 @@ pub(crate) fn items(
         ++ suggested_in known.entry.moded.now (told known.entry.named.now) (items_givings (view_items items.now))) }
 {
     for one in items {
-        item(alloc, known, one, casts)?;
+        item(known, one, casts)?;
     }
     Ok(())
 }

@@ -1,5 +1,5 @@
 -- The first names of lock paths that are kept are found where the cast is written.
-use Rattle.sharc_suggest_laws.proofs.{Imports.{◌≡◌, ⊎_elim, ℕ, ◌<◌, ◌≤◌, ◌||◌, Bool, true, false, cond, List, length, get_or, Contains, Option, Some, None, bytes_eq, codes, refl, ap, sym, subst, ◌∙◌, false≢true, cases_lt, items_marks, IsPlaced, Item, Named, Wait, Signal, Broadcast, Scope, Entry, look_up, defines_condition, call_entry, with_conditions, behind_all, no_heads, file_scope, notes_about, named_in, name_tokens, Resolution, IsResolved, named_at, IsToldOnce, text_at, is_call_name, is_call_at, keeps_named, keeps_first}, Calls.{KnowsCalls, items_defined, none_defined, not_known}, Filed.{IsMeant, AreMeant}, Folded.{seen, named_seen, named_past}, Leads.IsFoundIn, Mild.{is_filed, IsSpelled, named_there}, Noted.Clean, Scoped.{IsFoundAs, Scoped}, Spelled.{IsFiledAs, AreSpelt, not_filed}, SpelledAll.{in_program, seen_spelt, known_said}, Words.{call_text, name_there}}
+use Rattle.sharc_suggest_laws.proofs.{Imports.{◌≡◌, ⊎_elim, ℕ, ◌<◌, ◌≤◌, ◌||◌, Bool, true, false, cond, List, length, get_or, Contains, Option, Some, None, bytes_eq, codes, refl, ap, sym, subst, ◌∙◌, false≢true, cases_lt, items_marks, IsPlaced, Item, Named, Wait, Signal, Broadcast, Scope, Entry, look_up, defines_condition, call_entry, with_conditions, behind_all, no_heads, file_scope, notes_about, named_in, name_tokens, Resolution, IsResolved, named_at, IsToldOnce, text_at, is_call_name, is_call_at, keeps_named, keeps_first}, Calls.{KnowsCalls, items_defined, none_defined, not_known}, Filed.{IsMeant, AreMeant}, Folded.{seen, named_seen, named_past}, Leads.IsFoundIn, Mild.{is_filed, IsSpelled, named_there}, Noted.Clean, Scoped.{IsFoundAs, Scoped}, Spelled.{IsFiledAs, AreSpelt, not_filed}, SpelledAll.{in_program, filed_as, known_said}, Words.{call_text, name_there}}
 
 -- ---- the file has what a token names
 
@@ -27,30 +27,10 @@ calls_there items knows text called = by (defines_condition defined) knows
 
 pub has_names : (r : Resolution) → IsResolved r → IsPlaced r.program → Clean (notes_about r.program) → ((token : ℕ) → Contains (name_tokens (items_marks r.program.items)) token → IsToldOnce r token) → HasNames r (file_scope r.program.items).names
 has_names r resolved placed clean once = record {
-  filed = λ token filed. ⊎_elim (inside token filed) (outside token filed) (cases_lt token (length r.program.tokens.list));
+  filed = λ token filed. let there = filed_as r resolved placed clean token filed in (there.0, there.1);
   called = λ token known call.
-      calls_there r.program.items (known_said r file token all (once token (name_there r token placed.marked call)) known) (text_at r token) (call_text r token call);
+      calls_there r.program.items (known_said r (file_scope r.program.items) token (in_program r placed clean) (once token (name_there r token placed.marked call)) known) (text_at r token) (call_text r token call);
 }
-  where
-    file : Scope
-    file = file_scope r.program.items
-
-    all : AreSpelt r file (notes_about r.program)
-    all = in_program r placed clean
-
-    old : (token : ℕ) → named_at r token ≡ get_or (named_in r.program) token Named.Known
-    old token = ap (λ (l : List Named). get_or l token Named.Known) resolved.named
-
-    inside : (token : ℕ) → is_filed (named_at r token) ≡ true → token < length r.program.tokens.list → (e : Entry) × (look_up file.names (text_at r token) ≡ Some e)
-    inside token filed low =
-        let so : IsFiledAs r file.names token (seen token (notes_about r.program) Named.Known) =
-        seen_spelt r file token (notes_about r.program) Named.Known all (not_filed r file.names token Named.Known refl) in
-        let is : named_at r token ≡ seen token (notes_about r.program) Named.Known = old token ∙ named_seen r.program token low in
-        let there = so (ap is_filed (sym is) ∙ filed) in
-        (there.0, there.1)
-
-    outside : (token : ℕ) → is_filed (named_at r token) ≡ true → length r.program.tokens.list ≤ token → (e : Entry) × (look_up file.names (text_at r token) ≡ Some e)
-    outside token filed past = absurd (false≢true (ap is_filed (sym (old token ∙ named_past r.program token past)) ∙ filed))
 
 -- ---- so a first name that is kept is found, and means what it names
 

@@ -230,7 +230,7 @@ field_not_filed r file t (Named.Global n) f = absurd (false≢true f)
 field_not_filed r file t (Named.Function n) f = absurd (false≢true f)
 field_not_filed r file t k f = not_filed r file t k refl
 
-pub seen_spelt : (r : Resolution) (file : Scope) (t : ℕ) (l : List Note) (x : Named) → AreSpelt r file l → IsFiledAs r file.names t x → IsFiledAs r file.names t (seen t l x)
+seen_spelt : (r : Resolution) (file : Scope) (t : ℕ) (l : List Note) (x : Named) → AreSpelt r file l → IsFiledAs r file.names t x → IsFiledAs r file.names t (seen t l x)
 seen_spelt r file t [] x all is = is
 seen_spelt r file t (fault place code ∷ rest) x all is = seen_spelt r file t rest x all.1 is
 seen_spelt r file t (refers n w ∷ rest) x all is =
@@ -265,35 +265,36 @@ none_told t (yields n w ∷ rest) own = ap (seen t rest) (by (n == t) (λ at. ow
     by true is = is refl
     by false is = refl
 
+-- what the notes say that a token names is filed
+named_old : (r : Resolution) → IsResolved r → (token : ℕ) → named_at r token ≡ get_or (named_in r.program) token Named.Known
+named_old r resolved token = ap (λ (l : List Named). get_or l token Named.Known) resolved.named
+
+pub filed_as : (r : Resolution) → IsResolved r → IsPlaced r.program → Clean (notes_about r.program) → (token : ℕ) → IsFiledAs r (file_scope r.program.items).names token (named_at r token)
+filed_as r resolved placed clean token = ⊎_elim low past (cases_lt token (length r.program.tokens.list))
+  where
+    unfiled : IsFiledAs r (file_scope r.program.items).names token Named.Known
+    unfiled = not_filed r (file_scope r.program.items).names token Named.Known refl
+
+    low : token < length r.program.tokens.list → IsFiledAs r (file_scope r.program.items).names token (named_at r token)
+    low is =
+        subst (IsFiledAs r (file_scope r.program.items).names token) (sym (named_old r resolved token ∙ named_seen r.program token is))
+        (seen_spelt r (file_scope r.program.items) token (notes_about r.program) Named.Known (in_program r placed clean) unfiled)
+
+    past : length r.program.tokens.list ≤ token → IsFiledAs r (file_scope r.program.items).names token (named_at r token)
+    past is = subst (IsFiledAs r (file_scope r.program.items).names token) (sym (named_old r resolved token ∙ named_past r.program token is)) unfiled
+
 pub spelled : (r : Resolution) → IsResolved r → IsPlaced r.program → Clean (notes_about r.program) → ((token : ℕ) → Contains (referred (notes_about r.program)) token → Contains (name_tokens (items_marks r.program.items)) token) → ((token : ℕ) → Contains (name_tokens (items_marks r.program.items)) token → IsToldOnce r token)
     → IsSpelled r (file_scope r.program.items).names
 spelled r resolved placed clean only once = record {
-  filed = λ token filed e found. ⊎_elim (of_a_token token filed e found) (outside token filed e) (cases_lt token (length r.program.tokens.list));
+  filed = λ token filed e found.
+      let there = filed_as r resolved placed clean token filed in
+      ap (λ (x : Entry). named_of x.meaning) (one_some e there.0 (sym found ∙ there.1)) ∙ there.2;
   called = λ token known call e found.
-      calls_known r.program.items (known_said r file token all (once token (name_there r token placed.marked call)) known) (text_at r token) (call_text r token call) e found;
+      calls_known r.program.items (known_said r (file_scope r.program.items) token (in_program r placed clean) (once token (name_there r token placed.marked call)) known) (text_at r token) (call_text r token call) e found;
   apart = λ token dull. ⊎_elim (λ c. name_apart r token placed.marked (only token c)) (λ own. absurd (false≢true (sym dull ∙ ap is_dull (untold token own)))) (told_or_not token Named.Known (notes_about r.program));
 }
   where
-    file : Scope
-    file = file_scope r.program.items
-
-    all : AreSpelt r file (notes_about r.program)
-    all = in_program r placed clean
-
-    old : (token : ℕ) → named_at r token ≡ get_or (named_in r.program) token Named.Known
-    old token = ap (λ (l : List Named). get_or l token Named.Known) resolved.named
-
     untold : (token : ℕ) → AllByRecursion (IsOwnAt token Named.Known) (notes_about r.program) → named_at r token ≡ Named.Known
     untold token own =
-        ⊎_elim (λ low. old token ∙ named_seen r.program token low ∙ none_told token (notes_about r.program) own) (λ past. old token ∙ named_past r.program token past) (cases_lt token (length r.program.tokens.list))
-
-    of_a_token : (token : ℕ) → is_filed (named_at r token) ≡ true → (e : Entry) → look_up file.names (text_at r token) ≡ Some e → token < length r.program.tokens.list → named_of e.meaning ≡ named_at r token
-    of_a_token token filed e found low =
-        let so : IsFiledAs r file.names token (seen token (notes_about r.program) Named.Known) =
-        seen_spelt r file token (notes_about r.program) Named.Known all (not_filed r file.names token Named.Known refl) in
-        let is : named_at r token ≡ seen token (notes_about r.program) Named.Known = old token ∙ named_seen r.program token low in
-        let there = so (ap is_filed (sym is) ∙ filed) in
-        ap (λ (x : Entry). named_of x.meaning) (one_some e there.0 (sym found ∙ there.1)) ∙ there.2 ∙ sym is
-
-    outside : (token : ℕ) → is_filed (named_at r token) ≡ true → (e : Entry) → length r.program.tokens.list ≤ token → named_of e.meaning ≡ named_at r token
-    outside token filed e past = absurd (false≢true (ap is_filed (sym (old token ∙ named_past r.program token past)) ∙ filed))
+        named_old r resolved token
+        ∙ ⊎_elim (λ low. named_seen r.program token low ∙ none_told token (notes_about r.program) own) (λ past. named_past r.program token past) (cases_lt token (length r.program.tokens.list))

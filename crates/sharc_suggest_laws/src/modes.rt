@@ -3,12 +3,13 @@
 ghost use Rattle.std.specs.Prelude.{◌≡◌, ◌≤◌, ◌++◌, drop, length, map, replicate, IfOk, OnOk};
 ghost use Rattle.sharc_suggest_laws.specs.Applied.{written_or, targets, inserted, moved};
 
+use crate::written::Written;
 use sharc_mode::position::Reason;
 use sharc_tree::ctype::Mode;
 use std::alloc::{AllocError, Global};
 
 /// Adds these modes.
-fn add_modes(alloc: Global, modes: &[Mode], list: &mut Vec<Mode>) -> Result<(), AllocError>
+fn add_modes(alloc: Global, modes: &[Mode], list: &mut Vec<Mode>) -> Written<()>
     ensures { OnOk result (list.new.items ≡ list.old.items ++ modes.now) }
 {
     for mode in modes {
@@ -17,7 +18,7 @@ fn add_modes(alloc: Global, modes: &[Mode], list: &mut Vec<Mode>) -> Result<(), 
     Ok(())
 }
 
-fn written_or(alloc: Global, level: &Option<Mode>) -> Result<Mode, AllocError>
+fn written_or(alloc: Global, level: &Option<Mode>) -> Written<Mode>
     ensures { IfOk result (λ m. m ≡ written_or level.now) }
 {
     match level {
@@ -27,11 +28,7 @@ fn written_or(alloc: Global, level: &Option<Mode>) -> Result<Mode, AllocError>
 }
 
 /// Adds the modes of these levels.
-fn add_levels(
-    alloc: Global,
-    levels: &[Option<Mode>],
-    list: &mut Vec<Mode>,
-) -> Result<(), AllocError>
+fn add_levels(alloc: Global, levels: &[Option<Mode>], list: &mut Vec<Mode>) -> Written<()>
     ensures { OnOk result (list.new.items ≡ list.old.items ++ map written_or levels.now) }
 {
     for level in levels {
@@ -56,7 +53,7 @@ pub(crate) fn modes_with(
     first: usize,
     levels: &[Option<Mode>],
     modes: &[Mode],
-) -> Result<Vec<Mode>, AllocError>
+) -> Written<Vec<Mode>>
     requires { first ≤ length modes.now }
     ensures { IfOk result (λ list. list.items ≡ inserted first (targets levels.now) modes.now) }
 {
@@ -68,7 +65,7 @@ pub(crate) fn modes_with(
 }
 
 /// The same reason where this many positions are new from a first one on.
-fn moved(first: u32, count: u32, reason: Option<Reason>) -> Result<Option<Reason>, AllocError>
+fn moved(first: u32, count: u32, reason: Option<Reason>) -> Written<Option<Reason>>
     ensures { IfOk result (λ r. r ≡ moved first count reason) }
 {
     match reason {
@@ -93,7 +90,7 @@ fn all_moved(
     first: u32,
     count: u32,
     reasons: &[Option<Reason>],
-) -> Result<Vec<Option<Reason>>, AllocError>
+) -> Written<Vec<Option<Reason>>>
     ensures { IfOk result (λ list. list.items ≡ map (moved first count) reasons.now) }
 {
     let mut list = Vec::with_capacity(alloc, reasons.len())?;
@@ -103,16 +100,7 @@ fn all_moved(
     Ok(list)
 }
 
-fn add_reasons(reasons: &[Option<Reason>], list: &mut Vec<Option<Reason>>) -> Result<(), AllocError>
-    ensures { OnOk result (list.new.items ≡ list.old.items ++ reasons.now) }
-{
-    for reason in reasons {
-        list.push(*reason)?;
-    }
-    Ok(())
-}
-
-fn add_none(count: u32, list: &mut Vec<Option<Reason>>) -> Result<(), AllocError>
+fn add_none(count: u32, list: &mut Vec<Option<Reason>>) -> Written<()>
     ensures { OnOk result (list.new.items ≡ list.old.items ++ replicate count None) }
 {
     for _made in 0..count {
@@ -127,14 +115,14 @@ pub(crate) fn reasons_with(
     first: u32,
     count: u32,
     reasons: &[Option<Reason>],
-) -> Result<Vec<Option<Reason>>, AllocError>
+) -> Written<Vec<Option<Reason>>>
     requires { first ≤ length reasons.now }
     ensures { IfOk result (λ list. list.items
         ≡ map (moved first count) (inserted first (replicate count None) reasons.now)) }
 {
     let mut list = Vec::new(alloc);
-    add_reasons(&reasons[..first as usize], &mut list)?;
+    list.extend_from_slice(&reasons[..first as usize])?;
     add_none(count, &mut list)?;
-    add_reasons(&reasons[first as usize..], &mut list)?;
+    list.extend_from_slice(&reasons[first as usize..])?;
     all_moved(alloc, first, count, list.as_slice())
 }

@@ -9,13 +9,13 @@ ghost use Rattle.sharc_suggest_laws.specs.Recast.{local_with_cast, first_with_ca
 ghost use Rattle.sharc_suggest_laws.specs.Recast.{statement_with_cast, statements_with_cast};
 
 use crate::expression::{boxed, boxed_value, expression, value};
-use crate::written::Recast;
+use crate::written::{Recast, Written};
 use sharc_tree::held::{both, in_box};
 use sharc_tree::token::Span;
 use sharc_tree::tree::{Expr, ForFirst, ForHead, Local, Right, Simple, Stmt};
-use std::alloc::{AllocError, Global};
+use std::alloc::Global;
 
-fn optional(alloc: Global, c: &Recast, expr: &Option<Expr>) -> Result<Option<Expr>, AllocError>
+fn optional(alloc: Global, c: &Recast, expr: &Option<Expr>) -> Written<Option<Expr>>
     ensures { IfOk result (λ e. view_option view_expr e
         ≡ option_map (with_cast c.now) (view_option view_expr expr.now)) }
 {
@@ -25,7 +25,7 @@ fn optional(alloc: Global, c: &Recast, expr: &Option<Expr>) -> Result<Option<Exp
     }
 }
 
-fn right(alloc: Global, c: &Recast, right: &Right) -> Result<Right, AllocError>
+fn right(alloc: Global, c: &Recast, right: &Right) -> Written<Right>
     ensures { IfOk result (λ r. view_right r ≡ right_with_cast c.now (view_right right.now)) }
 {
     match right {
@@ -38,7 +38,7 @@ fn right(alloc: Global, c: &Recast, right: &Right) -> Result<Right, AllocError>
     }
 }
 
-fn simple_of(alloc: Global, c: &Recast, simple: &Simple) -> Result<Simple, AllocError>
+fn simple_of(alloc: Global, c: &Recast, simple: &Simple) -> Written<Simple>
     ensures { IfOk result (λ s. view_simple s ≡ simple_with_cast c.now (view_simple simple.now)) }
 {
     match simple {
@@ -51,7 +51,7 @@ fn simple_of(alloc: Global, c: &Recast, simple: &Simple) -> Result<Simple, Alloc
     }
 }
 
-fn initial(alloc: Global, c: &Recast, initial: &Option<Right>) -> Result<Option<Right>, AllocError>
+fn initial(alloc: Global, c: &Recast, initial: &Option<Right>) -> Written<Option<Right>>
     ensures { IfOk result (λ r. view_option view_right r
         ≡ option_map (right_with_cast c.now) (view_option view_right initial.now)) }
 {
@@ -61,7 +61,7 @@ fn initial(alloc: Global, c: &Recast, initial: &Option<Right>) -> Result<Option<
     }
 }
 
-fn local_of(alloc: Global, c: &Recast, local: &Local) -> Result<Local, AllocError>
+fn local_of(alloc: Global, c: &Recast, local: &Local) -> Written<Local>
     ensures { IfOk result (λ l. view_local l ≡ local_with_cast c.now (view_local local.now)) }
 {
     let declaration = local.declaration.copy(alloc)?;
@@ -73,7 +73,7 @@ fn local_of(alloc: Global, c: &Recast, local: &Local) -> Result<Local, AllocErro
     })
 }
 
-fn first(alloc: Global, c: &Recast, first: &ForFirst) -> Result<ForFirst, AllocError>
+fn first(alloc: Global, c: &Recast, first: &ForFirst) -> Written<ForFirst>
     ensures { IfOk result (λ f. view_first f ≡ first_with_cast c.now (view_first first.now)) }
 {
     match first {
@@ -83,7 +83,7 @@ fn first(alloc: Global, c: &Recast, first: &ForFirst) -> Result<ForFirst, AllocE
     }
 }
 
-fn step(alloc: Global, c: &Recast, step: &Option<Simple>) -> Result<Option<Simple>, AllocError>
+fn step(alloc: Global, c: &Recast, step: &Option<Simple>) -> Written<Option<Simple>>
     ensures { IfOk result (λ s. view_option view_simple s
         ≡ option_map (simple_with_cast c.now) (view_option view_simple step.now)) }
 {
@@ -97,7 +97,7 @@ fn test_and_step(
     alloc: Global,
     c: &Recast,
     head: &ForHead,
-) -> Result<(Option<Expr>, Option<Simple>), AllocError>
+) -> Written<(Option<Expr>, Option<Simple>)>
     ensures test { IfOk result (λ r. view_option view_expr r.0
         ≡ option_map (with_cast c.now) (view_option view_expr head.now.test)) }
     ensures step { IfOk result (λ r. view_option view_simple r.1
@@ -107,7 +107,7 @@ fn test_and_step(
     both(test, step(alloc, c, &head.step))
 }
 
-fn head_of(alloc: Global, c: &Recast, head: &ForHead) -> Result<ForHead, AllocError>
+fn head_of(alloc: Global, c: &Recast, head: &ForHead) -> Written<ForHead>
     ensures { IfOk result (λ h. view_head h ≡ head_with_cast c.now (view_head head.now)) }
 {
     let first = first(alloc, c, &head.first)?;
@@ -115,31 +115,21 @@ fn head_of(alloc: Global, c: &Recast, head: &ForHead) -> Result<ForHead, AllocEr
     Ok(ForHead { first, test, step })
 }
 
-fn declare_of(alloc: Global, c: &Recast, span: Span, local: &Local) -> Result<Stmt, AllocError>
+fn declare_of(alloc: Global, c: &Recast, span: Span, local: &Local) -> Written<Stmt>
     ensures { IfOk result (λ s. view_stmt s ≡ declare span (local_with_cast c.now (view_local local.now))) }
 {
     let local = local_of(alloc, c, local)?;
     Ok(Stmt::Declare(span, in_box(alloc, local)?))
 }
 
-fn simple_statement(
-    alloc: Global,
-    c: &Recast,
-    span: Span,
-    does: &Simple,
-) -> Result<Stmt, AllocError>
+fn simple_statement(alloc: Global, c: &Recast, span: Span, does: &Simple) -> Written<Stmt>
     ensures { IfOk result (λ s. view_stmt s ≡ simple span (simple_with_cast c.now (view_simple does.now))) }
 {
     let does = simple_of(alloc, c, does)?;
     Ok(Stmt::Simple(span, in_box(alloc, does)?))
 }
 
-fn return_of(
-    alloc: Global,
-    c: &Recast,
-    span: Span,
-    returned: &Option<Box<Expr>>,
-) -> Result<Stmt, AllocError>
+fn return_of(alloc: Global, c: &Recast, span: Span, returned: &Option<Box<Expr>>) -> Written<Stmt>
     ensures { IfOk result (λ s. view_stmt s ≡ return span
         (option_map (λ a. around c.now (with_cast c.now a)) (view_option (λ b. view_expr b.value) returned.now))) }
 {
@@ -149,13 +139,7 @@ fn return_of(
     }
 }
 
-fn if_of(
-    alloc: Global,
-    c: &Recast,
-    span: Span,
-    test: &Expr,
-    then: Box<Stmt>,
-) -> Result<Stmt, AllocError>
+fn if_of(alloc: Global, c: &Recast, span: Span, test: &Expr, then: Box<Stmt>) -> Written<Stmt>
     ensures { IfOk result (λ s. view_stmt s
         ≡ if_then span (with_cast c.now (view_expr test.now)) (view_stmt then.value)) }
 {
@@ -170,7 +154,7 @@ fn if_else_of(
     test: &Expr,
     then: Box<Stmt>,
     otherwise: Box<Stmt>,
-) -> Result<Stmt, AllocError>
+) -> Written<Stmt>
     ensures { IfOk result (λ s. view_stmt s
         ≡ if_then_else span (with_cast c.now (view_expr test.now)) (view_stmt then.value) (view_stmt otherwise.value)) }
 {
@@ -183,13 +167,7 @@ fn if_else_of(
     })
 }
 
-fn while_of(
-    alloc: Global,
-    c: &Recast,
-    span: Span,
-    test: &Expr,
-    body: Box<Stmt>,
-) -> Result<Stmt, AllocError>
+fn while_of(alloc: Global, c: &Recast, span: Span, test: &Expr, body: Box<Stmt>) -> Written<Stmt>
     ensures { IfOk result (λ s. view_stmt s
         ≡ while span (with_cast c.now (view_expr test.now)) (view_stmt body.value)) }
 {
@@ -197,20 +175,13 @@ fn while_of(
     Ok(Stmt::While(span, test, body))
 }
 
-fn boxed_head(alloc: Global, c: &Recast, head: &ForHead) -> Result<Box<ForHead>, AllocError>
+fn boxed_head(alloc: Global, c: &Recast, head: &ForHead) -> Written<Box<ForHead>>
     ensures { IfOk result (λ b. view_head b.value ≡ head_with_cast c.now (view_head head.now)) }
 {
-    let head = head_of(alloc, c, head)?;
-    in_box(alloc, head)
+    in_box(alloc, head_of(alloc, c, head)?)
 }
 
-fn for_of(
-    alloc: Global,
-    c: &Recast,
-    span: Span,
-    head: &ForHead,
-    body: Box<Stmt>,
-) -> Result<Stmt, AllocError>
+fn for_of(alloc: Global, c: &Recast, span: Span, head: &ForHead, body: Box<Stmt>) -> Written<Stmt>
     ensures { IfOk result (λ s. view_stmt s
         ≡ for span (head_with_cast c.now (view_head head.now)) (view_stmt body.value)) }
 {
@@ -220,7 +191,7 @@ fn for_of(
 
 /// A statement with the cast written in it.
 #[cycle(stmt)]
-fn statement(alloc: Global, c: &Recast, stmt: &Stmt) -> Result<Stmt, AllocError>
+fn statement(alloc: Global, c: &Recast, stmt: &Stmt) -> Written<Stmt>
     ensures { IfOk result (λ s. view_stmt s ≡ statement_with_cast c.now (view_stmt stmt.now)) }
 {
     match stmt {
@@ -258,16 +229,15 @@ fn statement(alloc: Global, c: &Recast, stmt: &Stmt) -> Result<Stmt, AllocError>
 
 /// The same in a box.
 #[cycle(stmt)]
-fn boxed_statement(alloc: Global, c: &Recast, stmt: &Stmt) -> Result<Box<Stmt>, AllocError>
+fn boxed_statement(alloc: Global, c: &Recast, stmt: &Stmt) -> Written<Box<Stmt>>
     ensures { IfOk result (λ b. view_stmt b.value ≡ statement_with_cast c.now (view_stmt stmt.now)) }
 {
-    let written = statement(alloc, c, stmt)?;
-    in_box(alloc, written)
+    in_box(alloc, statement(alloc, c, stmt)?)
 }
 
 /// Statements with the cast written in them.
 #[cycle(stmt)]
-pub(crate) fn statements(alloc: Global, c: &Recast, list: &[Stmt]) -> Result<Vec<Stmt>, AllocError>
+pub(crate) fn statements(alloc: Global, c: &Recast, list: &[Stmt]) -> Written<Vec<Stmt>>
     ensures { IfOk result (λ v. view_statements v.items ≡ statements_with_cast c.now (view_statements list.now)) }
 {
     let mut written = Vec::with_capacity(alloc, list.len())?;

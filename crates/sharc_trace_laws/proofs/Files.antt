@@ -1,50 +1,22 @@
 -- The text that is written of a run is an event file, within the limits.
-use Rattle.sharc_trace_laws.proofs.{Imports.{◌≡◌, ℕ, ◌*◌, ◌<◌, ◌≤◌, Bool, cond, true, false, List, [], ◌∷◌, ◌++◌, length, length-append, All, refl, ap, sym, subst, ◌∙◌, arith, append_assoc, eqb-true, or_parts, and_parts, decimal-digits_value, All-nil, All-cons, nat_eq, codes, decimal, list_any, slice_split, join_with_byte, onto_first, starts_with, Resolution, EventLine, Text, mark, without_empty_end, text_lines, AreEventLines, IsEventFile, Event, IsLineOf, AreLinesOf, event_text, events_text, file_text, HoldsNoEvents}, Pieces.{IsPiece, own, join, byte_on, decimal_piece, deed_piece}, Grammar.event_line}
-
--- ---- lines of a text
-split_at : (t rest : Text) → list_any (nat_eq 10) t ≡ false → slice_split (nat_eq 10) (t ++ 10 ∷ rest) ≡ t ∷ slice_split (nat_eq 10) rest
-split_at [] rest h = refl
-split_at (x ∷ t) rest h =
-    let p = or_parts (nat_eq 10 x) (list_any (nat_eq 10) t) h in
-    ap (λ b. cond b ([] ∷ slice_split (nat_eq 10) (t ++ 10 ∷ rest)) (onto_first x (slice_split (nat_eq 10) (t ++ 10 ∷ rest)))) p.0 ∙ ap (onto_first x) (split_at t rest p.1)
-
-some_onto : (x : ℕ) (l : List Text) → 0 < length (onto_first x l)
-some_onto x [] = omega arith
-some_onto x (t ∷ l) = omega arith
-
-some_part : (t : Text) → 0 < length (slice_split (nat_eq 10) t)
-some_part [] = omega arith
-some_part (x ∷ t) = by_case (nat_eq 10 x)
-  where
-    by_case : (b : Bool) → 0 < length (cond b ([] ∷ slice_split (nat_eq 10) t) (onto_first x (slice_split (nat_eq 10) t)))
-    by_case true = omega arith
-    by_case false = some_onto x (slice_split (nat_eq 10) t)
-
-past_first : (t : Text) (l : List Text) → 0 < length l → without_empty_end (t ∷ l) ≡ t ∷ without_empty_end l
-past_first t [] h = absurd (omega (arith, h))
-past_first [] (u ∷ l) h = refl
-past_first (x ∷ t) (u ∷ l) h = refl
-
-past_all : (front l : List Text) → 0 < length l → without_empty_end (front ++ l) ≡ front ++ without_empty_end l
-past_all [] l h = refl
-past_all (t ∷ front) l h = past_first t (front ++ l) (omega (arith, length-append front l, h)) ∙ ap (λ z. t ∷ z) (past_all front l h)
-
-one_line : (t rest : Text) → list_any (nat_eq 10) t ≡ false → text_lines (t ++ 10 ∷ rest) ≡ t ∷ text_lines rest
-one_line t rest free = ap without_empty_end (split_at t rest free) ∙ past_first t (slice_split (nat_eq 10) rest) (some_part rest)
+use Rattle.sharc_trace_laws.proofs.{Imports.{◌≡◌, ℕ, ◌*◌, ◌<◌, ◌≤◌, Bool, true, false, List, [], ◌∷◌, ◌++◌, length, length-append, All, refl, ap, sym, subst, ◌∙◌, arith, append_assoc, eqb-true, or_from, and_parts, decimal-digits_value, All-nil, All-cons, nat_eq, codes, decimal, list_any, AllByRecursion, join_with_byte, starts_with, Resolution, EventLine, Text, mark, text_lines, LinesAreCut, AreEventLines, IsEventFile, Event, IsLineOf, AreLinesOf, event_text, events_text, file_text, HoldsNoEvents}, Pieces.{IsPiece, own, join, byte_on, decimal_piece, deed_piece}, Grammar.event_line}
 
 -- ---- a source in lines
+abbrev HasNone : Text → Type 0
+HasNone line = list_any (nat_eq 10) line ≡ false
+
 record Cut (source : Text) : Type 0 where
   first : Text
   more : List Text
   joined : join_with_byte 10 (first ∷ more) ≡ source
-  parts : (rest : Text) → slice_split (nat_eq 10) (source ++ 10 ∷ rest) ≡ (first ∷ more) ++ slice_split (nat_eq 10) rest
+  free : AllByRecursion HasNone (first ∷ more)
 
 joined_first : (b : ℕ) (first : Text) (more : List Text) → join_with_byte 10 ((b ∷ first) ∷ more) ≡ b ∷ join_with_byte 10 (first ∷ more)
 joined_first b first [] = refl
 joined_first b first (t ∷ more) = refl
 
 cut : (source : Text) → Cut source
-cut [] = record { first = []; more = []; joined = refl; parts = λ rest. refl }
+cut [] = record { first = []; more = []; joined = refl; free = (refl, tt) }
 cut (b ∷ source) = by (nat_eq 10 b) refl (cut source)
   where
     by : (t : Bool) → nat_eq 10 b ≡ t → Cut source → Cut (b ∷ source)
@@ -52,14 +24,20 @@ cut (b ∷ source) = by (nat_eq 10 b) refl (cut source)
       first = [];
       more = c.first ∷ c.more;
       joined = ap (λ x. x ∷ join_with_byte 10 (c.first ∷ c.more)) (eqb-true 10 b e) ∙ ap (λ z. b ∷ z) c.joined;
-      parts = λ rest. ap (λ k. cond k ([] ∷ slice_split (nat_eq 10) (source ++ 10 ∷ rest)) (onto_first b (slice_split (nat_eq 10) (source ++ 10 ∷ rest)))) e ∙ ap (λ z. [] ∷ z) (c.parts rest);
+      free = (refl, c.free);
     }
     by false e c = record {
       first = b ∷ c.first;
       more = c.more;
       joined = joined_first b c.first c.more ∙ ap (λ z. b ∷ z) c.joined;
-      parts = λ rest. ap (λ k. cond k ([] ∷ slice_split (nat_eq 10) (source ++ 10 ∷ rest)) (onto_first b (slice_split (nat_eq 10) (source ++ 10 ∷ rest)))) e ∙ ap (onto_first b) (c.parts rest);
+      free = (or_from (nat_eq 10 b) (list_any (nat_eq 10) c.first) e c.free.0, c.free.1);
     }
+
+lines_of : LinesAreCut → (first : Text) (more : List Text) (rest : Text) → AllByRecursion HasNone (first ∷ more) → text_lines (join_with_byte 10 (first ∷ more) ++ 10 ∷ rest) ≡ (first ∷ more) ++ text_lines rest
+lines_of law first [] rest free = law first rest free.0
+lines_of law first (t ∷ more) rest free =
+    ap text_lines (append_assoc first (10 ∷ join_with_byte 10 (t ∷ more)) (10 ∷ rest)) ∙ law first (join_with_byte 10 (t ∷ more) ++ 10 ∷ rest) free.0
+    ∙ ap (λ z. first ∷ z) (lines_of law t more rest free.1)
 
 -- a line that begins so is the word and a rest
 begins : (word t : Text) → starts_with nat_eq t word ≡ true → (rest : Text) × (t ≡ word ++ rest)
@@ -90,12 +68,12 @@ plain first (t ∷ more) holds =
 event_piece : (r : Resolution) (l : EventLine) (e : Event) → IsLineOf r l e → IsPiece (event_text r e) 154
 event_piece r l e is = join (decimal_piece e.thread (let s = is.small in omega (arith, s))) (byte_on 32 refl (deed_piece r e.deed is.act.writable))
 
-lines_in : (r : Resolution) (lines : List EventLine) (events : List Event) → AreLinesOf r lines events → AreEventLines (text_lines (events_text r events)) lines
-lines_in r [] [] h = tt
-lines_in r [] (e ∷ events) h = absurd (h)
-lines_in r (l ∷ lines) [] h = absurd (h)
-lines_in r (l ∷ lines) (e ∷ events) h =
-    subst (λ z. AreEventLines z (l ∷ lines)) (sym (one_line (event_text r e) (events_text r events) (event_piece r l e h.0).free)) (event_line r l e h.0, lines_in r lines events h.1)
+lines_in : LinesAreCut → (r : Resolution) (lines : List EventLine) (events : List Event) → AreLinesOf r lines events → AreEventLines (text_lines (events_text r events)) lines
+lines_in law r [] [] h = tt
+lines_in law r [] (e ∷ events) h = absurd (h)
+lines_in law r (l ∷ lines) [] h = absurd (h)
+lines_in law r (l ∷ lines) (e ∷ events) h =
+    subst (λ z. AreEventLines z (l ∷ lines)) (sym (law (event_text r e) (events_text r events) (event_piece r l e h.0).free)) (event_line r l e h.0, lines_in law r lines events h.1)
 
 length_events : (r : Resolution) (lines : List EventLine) (events : List Event) → AreLinesOf r lines events → length (events_text r events) ≤ 155 * length lines
 length_events r [] [] h = omega arith
@@ -116,8 +94,8 @@ fuel_text = sym (decimal-digits_value own (codes "65536") refl (omega arith) no_
 abbrev header : Text
 header = codes "%%events 65536"
 
-pub file_is : (r : Resolution) (source : Text) (lines : List EventLine) (events : List Event) → HoldsNoEvents source → AreLinesOf r lines events → IsEventFile (text_lines (file_text r source events)) source 65536 lines
-file_is r source lines events holds are =
+pub file_is : LinesAreCut → (r : Resolution) (source : Text) (lines : List EventLine) (events : List Event) → HoldsNoEvents source → AreLinesOf r lines events → IsEventFile (text_lines (file_text r source events)) source 65536 lines
+file_is law r source lines events holds are =
     let c = cut source in
     let behind : Text = header ++ 10 ∷ events_text r events in
     record {
@@ -126,11 +104,11 @@ file_is r source lines events holds are =
       header = codes "65536";
       behind = text_lines (events_text r events);
       parts =
-          ap without_empty_end (c.parts behind) ∙ past_all (c.first ∷ c.more) (slice_split (nat_eq 10) behind) (some_part behind)
-          ∙ ap (λ z. (c.first ∷ c.more) ++ z) (one_line header (events_text r events) refl);
+          ap (λ z. text_lines (z ++ 10 ∷ behind)) (sym c.joined) ∙ lines_of law c.first c.more behind c.free
+          ∙ ap (λ z. (c.first ∷ c.more) ++ z) (law header (events_text r events) refl);
       plain = plain c.first c.more (subst HoldsNoEvents (sym c.joined) holds);
       fuel_is = record { is = fuel_text; above = omega arith; below = omega arith };
-      events_are = lines_in r lines events are;
+      events_are = lines_in law r lines events are;
       source_is = sym c.joined;
     }
 

@@ -1,13 +1,13 @@
 -- What the proofs cite of std, of other crates and of this crate's definitions, passed on from one place.
-pub use Rattle.std.proofs.{Common.{All, Bool, List, None, Some, [], ap, append_assoc, arith, cond, drop, eq-eqb, eqb-true, false, inl, inr, length, length-append, map, ne_eqb, refl, rules, subst, suc, sym, take, true, zero, ℕ, ◌*◌, ◌++◌, ◌+◌, ◌<◌, ◌^◌, ◌||◌, ◌∙◌, ◌∷◌, ◌≡◌, ◌≤◌}, lemmas.Bool.{and_parts, leb-true, lt-ltb, or_from, or_parts}, lemmas.Fmt.{decimal-digits_value, decimal_digit, digits_decimal, length-decimal-le}, lemmas.List.take-append-drop, lemmas.List.Elements.{All-cons, All-nil}, lemmas.Str.Parse.{IsNumeralModel, numerals_by_fold}}
-pub use Rattle.std.specs.{Char.is_ascii_digit, Fmt.signed_decimal, Int.w64, Io.KnownBytes.Appends, List.{join_with_byte, list_all, list_any, onto_first, slice_split, starts_with}, Prelude.{FitsSigned, codes, decimal, if◌then◌else◌, nat_eq, negsuc, pos, reverse, ℤ}, Str.all_ascii_digits}
+pub use Rattle.std.proofs.{Common.{All, Bool, List, None, Some, [], ap, append_assoc, arith, drop, eq-eqb, eqb-true, false, inl, inr, length, length-append, map, ne_eqb, refl, rules, subst, suc, sym, take, true, zero, ℕ, ◌*◌, ◌++◌, ◌+◌, ◌<◌, ◌^◌, ◌||◌, ◌∙◌, ◌∷◌, ◌≡◌, ◌≤◌}, lemmas.Bool.{and_parts, leb-true, lt-ltb, or_from, or_parts}, lemmas.Fmt.{decimal-digits_value, decimal_digit, digits_decimal, length-decimal-le}, lemmas.List.take-append-drop, lemmas.List.Elements.{All-cons, All-nil}, lemmas.Str.Parse.{IsNumeralModel, numerals_by_fold}}
+pub use Rattle.std.specs.{Char.is_ascii_digit, Fmt.signed_decimal, Int.w64, Io.KnownBytes.Appends, List.{AllByRecursion, join_with_byte, list_all, list_any, starts_with}, Prelude.{FitsSigned, codes, decimal, if◌then◌else◌, nat_eq, negsuc, pos, reverse, ℤ}, Str.all_ascii_digits}
 pub use Rattle.sharc_lemmas.proofs.{Lists.map_take, Numbers.{not_long as too_long}}
 pub use Rattle.sharc_tree.specs.declared.event.SourceEvent.{SourceEvent}
 pub use Rattle.sharc_ctype.specs.Resolved.{Resolution, function_at}
 pub use Rattle.sharc_mode.specs.Moded.{Assignment}
 pub use Rattle.sharc_check.specs.Rules.{MeetsRules}
 pub use Rattle.sharc_meaning.specs.{Arithmetic.is_held_by, Laws.RunLaws, Obeys.{Obeys, until_return}, Runs.SourceRun}
-pub use Rattle.sharc_audit.specs.{Grammar.{AreEventLines, IsAct, IsCell, IsEventFile, IsEventLine, IsName, IsPair, IsReference, IsThread, IsValue, Text, is_digit, is_letter, mark, read_on, text_lines, thread_most, without_empty_end}, Lines.{AreLines, spawned_by}, Running.RunsNeverFail, declared.audit.Verdict.Verdict, declared.line.EventLine.EventLine, declared.line.LineAct.LineAct}
+pub use Rattle.sharc_audit.specs.{FileLaws.LinesAreCut, Grammar.{AreEventLines, IsAct, IsCell, IsEventFile, IsEventLine, IsName, IsPair, IsReference, IsThread, IsValue, Text, is_digit, is_letter, mark, read_on, text_lines, thread_most}, Lines.{AreLines, spawned_by}, Running.RunsNeverFail, declared.audit.Verdict.Verdict, declared.line.EventLine.EventLine, declared.line.LineAct.LineAct}
 pub use Rattle.sharc_code.specs.{Layout.Fits, Runs.{Said, Turn}, Says.reference, declared.code.Code.Code, declared.shape.Shape.Shape}
 pub use Rattle.sharc_seq.specs.Run.{AreChosen}
 pub use Rattle.sharc_schedule.specs.{File.{AreNumbers, FileView, HoldsNoSchedule, IsFile}, Schedule.Stored}

@@ -2,7 +2,7 @@
 
 ghost use Rattle.sharc_trace_laws.specs.Laws.{FilesAreAudited, FilesAreEventFiles, NoneIsAtFault, RecordingsAreTraced};
 
-use sharc_audit::laws::runs_never_fail;
+use sharc_audit::laws::{file_laws, runs_never_fail};
 use sharc_build::fronts_are_typed;
 use sharc_history::history_laws;
 use sharc_meaning::laws::run_laws;
@@ -19,6 +19,7 @@ pub fn files_are_event_files()
     ensures { FilesAreEventFiles }
 {
     programs_hold_no_events();
+    file_laws();
 }
 
 /// So `audit` answers it with `obeys N events`, with as many events as were written, and ends with 0.
