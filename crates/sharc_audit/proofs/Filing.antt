@@ -75,7 +75,7 @@ ended_join t [] = refl
 ended_join t (u ∷ texts) = ap (λ z. t ++ 10 ∷ z) (ended_join u texts) ∙ sym (append_assoc t (10 ∷ join_with_byte 10 (u ∷ texts)) (10 ∷ []))
 
 take_one_more : {X : Type 0} (a : List X) (x : X) (b : List X) → take (suc (length a)) (a ++ x ∷ b) ≡ a ++ x ∷ []
-take_one_more a x b = ap (λ n. take n (a ++ x ∷ b)) (omega arith) ∙ take-append-add a (x ∷ b) 1
+take_one_more a x b = let e : suc (length a) ≡ length a + 1 = omega arith in ap (λ n. take n (a ++ x ∷ b)) e ∙ take-append-add a (x ∷ b) 1
 
 -- ---- the header
 

@@ -1,5 +1,5 @@
 -- A text is one event file at most.
-use Rattle.sharc_audit.proofs.{Imports.{append-nil, ◌≡◌, inl, inr, ℕ, suc, ◌<◌, ◌≤◌, List, [], ◌∷◌, ◌++◌, length, take, drop, refl, ap, sym, subst, ◌∙◌, arith, append_assoc, take-append-drop, take-take, join_with_byte, EventLine, Text, IsNumber, mark, AreEventLines, IsEventFile, Continues, FailsThere, IsFirstBad, IsNoHeader}, Alone.{one_number, one_listing}, Filing.{behind_first, behind_mark, one_header}}
+use Rattle.sharc_audit.proofs.{Imports.{append-nil, ◌≡◌, inl, inr, ℕ, suc, ◌<◌, ◌≤◌, List, [], ◌∷◌, ◌++◌, length, take, drop, ap, sym, subst, ◌∙◌, arith, append_assoc, take-append-drop, take-take, join_with_byte, EventLine, Text, IsNumber, mark, AreEventLines, IsEventFile, Continues, FailsThere, IsFirstBad}, Alone.{one_number, one_listing}, Filing.{behind_first, behind_mark, one_header}}
 
 pub one_file : (texts : List Text) (source other : Text) (fuel more : ℕ) (events others : List EventLine) → IsEventFile texts source fuel events → IsEventFile texts other more others
     → (source ≡ other) × (fuel ≡ more) × (events ≡ others)

@@ -1,5 +1,5 @@
 -- The lines of a source run that obeys never fail.
-use Rattle.sharc_audit.proofs.{Imports.{◌≡◌, ◌⊎◌, inl, inr, ℕ, suc, ◌+◌, ◌<◌, Bool, true, false, List, [], ◌∷◌, ◌++◌, length, take, Option, Some, None, refl, ap, sym, subst, ◌∙◌, arith, cases_order, ℤ, slice_get, if◌then◌else◌, SourceEvent, Assignment, AskLaws, StoreLaws, RunLaws, AskedFor, asks, Obeys, until_return, SourceRun, SourceRunWith, Outcome, wants, ended, stopped, spent, RuleLaws, EventFault, EventLine, Wants, Spent, IsSpent, Accepted, Audits, FailsBy, IsAsked, IsFirstRefused, entry, event_at, has_begun, is_spent, next_in, next_of, next_told, own_answers, start_of, without_event, AreLines, IsLine, told, FindsEntries, Verdict}, Answering.{asked_is, computed_asked, is_spent_at, spent_is}, Auditing.{FrontLines, LastLine, front_lines, last_line, lines_more, same_events, take_one}, Fuels.{more_run, one_fuel}, Telling.{at_front, past_end}}
+use Rattle.sharc_audit.proofs.{Imports.{◌≡◌, ◌⊎◌, inl, inr, ℕ, suc, ◌+◌, ◌<◌, Bool, true, false, List, [], ◌∷◌, ◌++◌, length, take, Option, Some, None, refl, ap, sym, subst, ◌∙◌, arith, cases_order, ℤ, slice_get, if◌then◌else◌, SourceEvent, Assignment, AskLaws, StoreLaws, RunLaws, AskedFor, asks, Obeys, until_return, SourceRun, SourceRunWith, Outcome, spent, RuleLaws, EventFault, EventLine, Wants, Spent, IsSpent, Accepted, Audits, FailsBy, IsAsked, IsFirstRefused, entry, event_at, has_begun, is_spent, next_in, next_of, next_told, own_answers, start_of, without_event, AreLines, IsLine, told, FindsEntries, Verdict}, Answering.{asked_is, computed_asked, is_spent_at, spent_is}, Auditing.{FrontLines, LastLine, front_lines, last_line, lines_more, same_events, take_one}, Fuels.{more_run, one_fuel}, Telling.{at_front, past_end}}
 
 -- ---- one thread: more fuel changes what it asks for next only where its fuel was spent
 module _ (ask : AskLaws) (m : Assignment) (fuel more t place f : ℕ) (v : ℤ) (answers : List ℤ) where
