@@ -6,7 +6,7 @@ ghost use Rattle.sharc_dataflow.specs.Code.{listing};
 ghost use Rattle.sharc_live.specs.Flows.{goes_on, nulls, variable_of, of_operands, of_place_call, of_base, flow};
 ghost use Rattle.sharc_live.specs.Flows.{flow_all, place_flow};
 
-use crate::variable::{Stepped, nulls, reads, variable_of};
+use crate::variable::{Walked, nulls, reads, variable_of};
 use sharc_ctype::typed::Typed;
 use sharc_dataflow::step::Step;
 use sharc_tree::tree::{BinaryOperator, Expr, FieldOperator, PlaceCall, UnaryOperator};
@@ -18,7 +18,7 @@ fn on_place(
     call: PlaceCall,
     source: &Expr,
     steps: &mut Vec<Step>,
-) -> Stepped
+) -> Walked
     ensures { OnOk result (steps.new.items ≡ steps.old.items
         ++ listing (of_place_call call goes_on (nulls (variable_of typed.now (view_expr source.now)) token))) }
 {
@@ -31,7 +31,7 @@ fn on_place(
 
 /// Adds the steps of a value.
 #[cycle(expression)]
-pub(crate) fn expression(typed: &Typed, expr: &Expr, steps: &mut Vec<Step>) -> Stepped
+pub(crate) fn expression(typed: &Typed, expr: &Expr, steps: &mut Vec<Step>) -> Walked
     ensures { OnOk result (steps.new.items ≡ steps.old.items ++ listing (flow typed.now (view_expr expr.now))) }
 {
     match expr {
@@ -74,7 +74,7 @@ pub(crate) fn expression(typed: &Typed, expr: &Expr, steps: &mut Vec<Step>) -> S
 }
 
 #[cycle(expression)]
-fn arguments(typed: &Typed, all: &[Expr], steps: &mut Vec<Step>) -> Stepped
+fn arguments(typed: &Typed, all: &[Expr], steps: &mut Vec<Step>) -> Walked
     ensures { OnOk result (steps.new.items ≡ steps.old.items ++ listing (flow_all typed.now (view_arguments all.now))) }
 {
     for expr in all {
@@ -90,7 +90,7 @@ fn right_operand(
     operator: BinaryOperator,
     operand: &Expr,
     steps: &mut Vec<Step>,
-) -> Stepped
+) -> Walked
     ensures { OnOk result (steps.new.items
         ≡ steps.old.items ++ listing (of_operands operator goes_on (flow typed.now (view_expr operand.now)))) }
 {
@@ -108,7 +108,7 @@ fn right_operand(
 
 /// What comes before `.` is a place, before `->` a value.
 #[cycle(expression)]
-fn field_base(typed: &Typed, access: FieldOperator, base: &Expr, steps: &mut Vec<Step>) -> Stepped
+fn field_base(typed: &Typed, access: FieldOperator, base: &Expr, steps: &mut Vec<Step>) -> Walked
     ensures { OnOk result (steps.new.items ≡ steps.old.items
         ++ listing (of_base access (place_flow typed.now (view_expr base.now)) (flow typed.now (view_expr base.now)))) }
 {
@@ -120,7 +120,7 @@ fn field_base(typed: &Typed, access: FieldOperator, base: &Expr, steps: &mut Vec
 
 /// Adds the steps by which the place that an lvalue names is found.
 #[cycle(expression)]
-pub(crate) fn place(typed: &Typed, expr: &Expr, steps: &mut Vec<Step>) -> Stepped
+pub(crate) fn place(typed: &Typed, expr: &Expr, steps: &mut Vec<Step>) -> Walked
     ensures { OnOk result (steps.new.items ≡ steps.old.items ++ listing (place_flow typed.now (view_expr expr.now))) }
 {
     match expr {

@@ -10,7 +10,7 @@ ghost use Rattle.sharc_live.specs.Flows.{first_flow, turn_flow, test_flow, jump_
 ghost use Rattle.sharc_live.specs.Flows.{statements_flow, parameters_flow, function_flow};
 
 use crate::expression::{expression, place};
-use crate::variable::{Stepped, variable_of, writes};
+use crate::variable::{Walked, variable_of, writes};
 use sharc_ctype::typed::Typed;
 use sharc_dataflow::step::Step;
 use sharc_tree::tree::{
@@ -18,7 +18,7 @@ use sharc_tree::tree::{
 };
 use std::alloc::{AllocError, Global};
 
-fn optional(typed: &Typed, expr: &Option<Expr>, steps: &mut Vec<Step>) -> Stepped
+fn optional(typed: &Typed, expr: &Option<Expr>, steps: &mut Vec<Step>) -> Walked
     ensures { OnOk result (steps.new.items
         ≡ steps.old.items ++ listing (of_option (flow typed.now) (view_option view_expr expr.now))) }
 {
@@ -28,7 +28,7 @@ fn optional(typed: &Typed, expr: &Option<Expr>, steps: &mut Vec<Step>) -> Steppe
     }
 }
 
-fn right(typed: &Typed, right: &Right, steps: &mut Vec<Step>) -> Stepped
+fn right(typed: &Typed, right: &Right, steps: &mut Vec<Step>) -> Walked
     ensures { OnOk result (steps.new.items ≡ steps.old.items ++ listing (right_flow typed.now (view_right right.now))) }
 {
     match right {
@@ -37,7 +37,7 @@ fn right(typed: &Typed, right: &Right, steps: &mut Vec<Step>) -> Stepped
     }
 }
 
-fn simple(typed: &Typed, simple: &Simple, steps: &mut Vec<Step>) -> Stepped
+fn simple(typed: &Typed, simple: &Simple, steps: &mut Vec<Step>) -> Walked
     ensures { OnOk result (steps.new.items
         ≡ steps.old.items ++ listing (simple_flow typed.now (view_simple simple.now))) }
 {
@@ -51,14 +51,14 @@ fn simple(typed: &Typed, simple: &Simple, steps: &mut Vec<Step>) -> Stepped
     }
 }
 
-fn declares(of: &Declaration, steps: &mut Vec<Step>) -> Stepped
+fn declares(of: &Declaration, steps: &mut Vec<Step>) -> Walked
     ensures { OnOk result (steps.new.items ≡ steps.old.items ++ listing (declares_flow of.now)) }
 {
     steps.push(Step::Write(of.name.site.token))?;
     Ok(())
 }
 
-fn initial(typed: &Typed, value: &Option<Right>, steps: &mut Vec<Step>) -> Stepped
+fn initial(typed: &Typed, value: &Option<Right>, steps: &mut Vec<Step>) -> Walked
     ensures { OnOk result (steps.new.items
         ≡ steps.old.items ++ listing (of_option (right_flow typed.now) (view_option view_right value.now))) }
 {
@@ -68,7 +68,7 @@ fn initial(typed: &Typed, value: &Option<Right>, steps: &mut Vec<Step>) -> Stepp
     }
 }
 
-fn local(typed: &Typed, local: &Local, steps: &mut Vec<Step>) -> Stepped
+fn local(typed: &Typed, local: &Local, steps: &mut Vec<Step>) -> Walked
     ensures { OnOk result (steps.new.items ≡ steps.old.items ++ listing (local_flow typed.now (view_local local.now))) }
 {
     declares(&local.declaration, steps)?;
@@ -76,7 +76,7 @@ fn local(typed: &Typed, local: &Local, steps: &mut Vec<Step>) -> Stepped
     declares(&local.declaration, steps)
 }
 
-fn first(typed: &Typed, first: &ForFirst, steps: &mut Vec<Step>) -> Stepped
+fn first(typed: &Typed, first: &ForFirst, steps: &mut Vec<Step>) -> Walked
     ensures { OnOk result (steps.new.items ≡ steps.old.items ++ listing (first_flow typed.now (view_first first.now))) }
 {
     match first {
@@ -86,7 +86,7 @@ fn first(typed: &Typed, first: &ForFirst, steps: &mut Vec<Step>) -> Stepped
     }
 }
 
-fn step(typed: &Typed, step: &Option<Simple>, steps: &mut Vec<Step>) -> Stepped
+fn step(typed: &Typed, step: &Option<Simple>, steps: &mut Vec<Step>) -> Walked
     ensures { OnOk result (steps.new.items
         ≡ steps.old.items ++ listing (of_option (simple_flow typed.now) (view_option view_simple step.now))) }
 {
@@ -96,7 +96,7 @@ fn step(typed: &Typed, step: &Option<Simple>, steps: &mut Vec<Step>) -> Stepped
     }
 }
 
-fn returned(typed: &Typed, value: &Option<Box<Expr>>, steps: &mut Vec<Step>) -> Stepped
+fn returned(typed: &Typed, value: &Option<Box<Expr>>, steps: &mut Vec<Step>) -> Walked
     ensures { OnOk result (steps.new.items ≡ steps.old.items ++ listing
         (first_then (of_option (flow typed.now) (view_option (λ b. view_expr b.value) value.now)) (goes_to Ends))) }
 {
@@ -108,7 +108,7 @@ fn returned(typed: &Typed, value: &Option<Box<Expr>>, steps: &mut Vec<Step>) -> 
 }
 
 /// Begins a turn: its test leads past the loop, or on to the body.
-fn begins_body(steps: &mut Vec<Step>) -> Stepped
+fn begins_body(steps: &mut Vec<Step>) -> Walked
     ensures { OnOk result (steps.new.items ≡ steps.old.items ++ body_begins) }
 {
     steps.push(Step::Fork)?;
@@ -119,7 +119,7 @@ fn begins_body(steps: &mut Vec<Step>) -> Stepped
 }
 
 /// Ends a turn that has a test, and the loop.
-fn ends_loop(steps: &mut Vec<Step>) -> Stepped
+fn ends_loop(steps: &mut Vec<Step>) -> Walked
     ensures { OnOk result (steps.new.items ≡ steps.old.items ++ tested_loop_ends) }
 {
     steps.push(Step::Join)?;
@@ -128,7 +128,7 @@ fn ends_loop(steps: &mut Vec<Step>) -> Stepped
 }
 
 /// Begins a turn, with its test if there is one.
-fn begins_turn(typed: &Typed, test: &Option<Expr>, steps: &mut Vec<Step>) -> Stepped
+fn begins_turn(typed: &Typed, test: &Option<Expr>, steps: &mut Vec<Step>) -> Walked
     ensures { OnOk result (steps.new.items
         ≡ steps.old.items ++ turn_begins (test_flow typed.now (view_option view_expr test.now))) }
 {
@@ -145,7 +145,7 @@ fn begins_turn(typed: &Typed, test: &Option<Expr>, steps: &mut Vec<Step>) -> Ste
 }
 
 /// Ends the turn and the loop.
-fn ends_turn(test: &Option<Expr>, steps: &mut Vec<Step>) -> Stepped
+fn ends_turn(test: &Option<Expr>, steps: &mut Vec<Step>) -> Walked
     ensures { OnOk result (steps.new.items ≡ steps.old.items ++ turn_ends (view_option view_expr test.now)) }
 {
     match test {
@@ -157,7 +157,7 @@ fn ends_turn(test: &Option<Expr>, steps: &mut Vec<Step>) -> Stepped
     }
 }
 
-fn jump(jump: Jump, steps: &mut Vec<Step>) -> Stepped
+fn jump(jump: Jump, steps: &mut Vec<Step>) -> Walked
     ensures { OnOk result (steps.new.items ≡ steps.old.items ++ listing (jump_flow jump)) }
 {
     match jump {
@@ -168,7 +168,7 @@ fn jump(jump: Jump, steps: &mut Vec<Step>) -> Stepped
 }
 
 /// Ends an `if` without `else`: its other way does nothing.
-fn ends_if(steps: &mut Vec<Step>) -> Stepped
+fn ends_if(steps: &mut Vec<Step>) -> Walked
     ensures { OnOk result (steps.new.items ≡ steps.old.items ++ if_ends) }
 {
     steps.push(Step::Other)?;
@@ -177,7 +177,7 @@ fn ends_if(steps: &mut Vec<Step>) -> Stepped
 }
 
 #[cycle(statement)]
-fn statement(typed: &Typed, stmt: &Stmt, steps: &mut Vec<Step>) -> Stepped
+fn statement(typed: &Typed, stmt: &Stmt, steps: &mut Vec<Step>) -> Walked
     ensures { OnOk result (steps.new.items
         ≡ steps.old.items ++ listing (statement_flow typed.now (view_stmt stmt.now))) }
 {
@@ -221,7 +221,7 @@ fn statement(typed: &Typed, stmt: &Stmt, steps: &mut Vec<Step>) -> Stepped
 }
 
 #[cycle(statement)]
-fn for_loop(typed: &Typed, head: &ForHead, body: &Stmt, steps: &mut Vec<Step>) -> Stepped
+fn for_loop(typed: &Typed, head: &ForHead, body: &Stmt, steps: &mut Vec<Step>) -> Walked
     ensures { OnOk result (steps.new.items ≡ steps.old.items
         ++ listing (for_flow typed.now (view_head head.now) (statement_flow typed.now (view_stmt body.now)))) }
 {
@@ -236,7 +236,7 @@ fn for_loop(typed: &Typed, head: &ForHead, body: &Stmt, steps: &mut Vec<Step>) -
 }
 
 #[cycle(statement)]
-fn statements(typed: &Typed, all: &[Stmt], steps: &mut Vec<Step>) -> Stepped
+fn statements(typed: &Typed, all: &[Stmt], steps: &mut Vec<Step>) -> Walked
     ensures { OnOk result (steps.new.items
         ≡ steps.old.items ++ listing (statements_flow typed.now (view_statements all.now))) }
 {
@@ -246,7 +246,7 @@ fn statements(typed: &Typed, all: &[Stmt], steps: &mut Vec<Step>) -> Stepped
     Ok(())
 }
 
-fn parameters(all: &[Declaration], steps: &mut Vec<Step>) -> Stepped
+fn parameters(all: &[Declaration], steps: &mut Vec<Step>) -> Walked
     ensures { OnOk result (steps.new.items ≡ steps.old.items ++ listing (parameters_flow all.now)) }
 {
     for of in all {

@@ -12,9 +12,9 @@ use sharc_tree::tree::{Expr, FieldOperator};
 use std::alloc::AllocError;
 
 /// Whether the steps could be added: nothing but memory can be lacking.
-pub(crate) type Stepped = Result<(), AllocError>;
+pub(crate) type Walked = Result<(), AllocError>;
 
-pub(crate) fn reads(variable: Option<u32>, token: u32, steps: &mut Vec<Step>) -> Stepped
+pub(crate) fn reads(variable: Option<u32>, token: u32, steps: &mut Vec<Step>) -> Walked
     ensures { OnOk result (steps.new.items ≡ steps.old.items ++ listing (reads variable token)) }
 {
     if let Some(x) = variable {
@@ -23,7 +23,7 @@ pub(crate) fn reads(variable: Option<u32>, token: u32, steps: &mut Vec<Step>) ->
     Ok(())
 }
 
-pub(crate) fn nulls(variable: Option<u32>, token: u32, steps: &mut Vec<Step>) -> Stepped
+pub(crate) fn nulls(variable: Option<u32>, token: u32, steps: &mut Vec<Step>) -> Walked
     ensures { OnOk result (steps.new.items ≡ steps.old.items ++ listing (nulls variable token)) }
 {
     if let Some(x) = variable {
@@ -32,7 +32,7 @@ pub(crate) fn nulls(variable: Option<u32>, token: u32, steps: &mut Vec<Step>) ->
     Ok(())
 }
 
-pub(crate) fn writes(variable: Option<u32>, steps: &mut Vec<Step>) -> Stepped
+pub(crate) fn writes(variable: Option<u32>, steps: &mut Vec<Step>) -> Walked
     ensures { OnOk result (steps.new.items ≡ steps.old.items ++ listing (writes variable)) }
 {
     if let Some(x) = variable {
