@@ -7,7 +7,7 @@ ghost use Rattle.sharc_suggest_laws.specs.Applied.{names_struct, base_site, reca
 ghost use Rattle.sharc_suggest_laws.specs.Applied.{resolution_with, first_of, assignment_with};
 
 use crate::modes::{below, modes_with, reasons_with};
-use crate::written::{Copied, Recast};
+use crate::written::{Recast, Rewritten};
 use sharc_ctype::entity::Numbered;
 use sharc_ctype::typed::{Typed, type_program};
 use sharc_mode::error::Cast;
@@ -40,7 +40,7 @@ fn base_site(types: &[Numbered], base: &Base, site: Site) -> Site
     site
 }
 
-fn recast_of(alloc: Global, typed: &Typed, cast: &Cast) -> Copied<Recast>
+fn recast_of(alloc: Global, typed: &Typed, cast: &Cast) -> Rewritten<Recast>
     ensures { IfOk result (λ r. r ≡ recast_of typed.now cast.now) }
 {
     let base = base_site(typed.entities(), &cast.to.base, cast.site);
@@ -80,7 +80,7 @@ fn fits(program: &Program) -> bool
 }
 
 /// A program typed again.
-fn typed_again(alloc: Global, program: Program) -> Copied<Typed>
+fn typed_again(alloc: Global, program: Program) -> Rewritten<Typed>
     ensures { IfOk result (λ t. t
         ≡ record { program = view_program program; named = named_in (view_program program) }) }
 {
@@ -96,7 +96,7 @@ fn typed_again(alloc: Global, program: Program) -> Copied<Typed>
     }
 }
 
-fn typed_with(alloc: Global, typed: &Typed, cast: &Cast) -> Copied<Typed>
+fn typed_with(alloc: Global, typed: &Typed, cast: &Cast) -> Rewritten<Typed>
     ensures { IfOk result (λ new. new ≡ resolution_with cast.now typed.now) }
 {
     let recast = recast_of(alloc, typed, cast)?;
@@ -115,7 +115,7 @@ fn first_of(typed: &Typed, from: u32, until: u32) -> u32
 }
 
 /// The modes of a program, in their order.
-fn modes_of(alloc: Global, program: &Moded) -> Copied<Vec<Mode>>
+fn modes_of(alloc: Global, program: &Moded) -> Rewritten<Vec<Mode>>
     ensures { IfOk result (λ list. list.items ≡ program.now.modes) }
 {
     let count = program.position_count();
@@ -127,7 +127,7 @@ fn modes_of(alloc: Global, program: &Moded) -> Copied<Vec<Mode>>
 }
 
 /// The reasons of a program, in their order.
-fn reasons_of(alloc: Global, program: &Moded) -> Copied<Vec<Option<Reason>>>
+fn reasons_of(alloc: Global, program: &Moded) -> Rewritten<Vec<Option<Reason>>>
     ensures { IfOk result (λ list. list.items ≡ program.now.reasons) }
 {
     let count = program.position_count();
@@ -139,7 +139,7 @@ fn reasons_of(alloc: Global, program: &Moded) -> Copied<Vec<Option<Reason>>>
 }
 
 /// The modes with those of the cast's targets among them.
-fn new_modes(alloc: Global, program: &Moded, cast: &Cast, first: u32) -> Copied<Vec<Mode>>
+fn new_modes(alloc: Global, program: &Moded, cast: &Cast, first: u32) -> Rewritten<Vec<Mode>>
     ensures { IfOk result (λ list. list.items ≡ inserted first (targets cast.now.to.levels) program.now.modes) }
 {
     let modes = modes_of(alloc, program)?;
@@ -160,7 +160,7 @@ fn new_reasons(
     program: &Moded,
     first: u32,
     count: u32,
-) -> Copied<Vec<Option<Reason>>>
+) -> Rewritten<Vec<Option<Reason>>>
     ensures { IfOk result (λ list. list.items
         ≡ map (moved first count) (inserted first (replicate count None) program.now.reasons)) }
 {
@@ -172,7 +172,7 @@ fn new_reasons(
 }
 
 /// A typed program with these modes and reasons, if they are as many as its positions.
-fn assigned(typed: Typed, modes: Vec<Mode>, reasons: Vec<Option<Reason>>) -> Copied<Moded>
+fn assigned(typed: Typed, modes: Vec<Mode>, reasons: Vec<Option<Reason>>) -> Rewritten<Moded>
     ensures { IfOk result (λ m. m ≡ record { typed = typed; modes = modes.items; reasons = reasons.items }) }
 {
     let count = typed.position_count() as usize;
@@ -189,7 +189,7 @@ fn parts(
     program: &Moded,
     cast: &Cast,
     first: u32,
-) -> Copied<(Vec<Mode>, Vec<Option<Reason>>)>
+) -> Rewritten<(Vec<Mode>, Vec<Option<Reason>>)>
     ensures modes { IfOk result (λ p. p.0.items ≡ inserted first (targets cast.now.to.levels) program.now.modes) }
     ensures reasons { IfOk result (λ p. p.1.items ≡ map (moved first (length (targets cast.now.to.levels)))
         (inserted first (replicate (length (targets cast.now.to.levels)) None) program.now.reasons)) }
@@ -203,7 +203,7 @@ fn parts(
     Ok((modes, reasons))
 }
 
-fn moded_with(alloc: Global, program: &Moded, cast: &Cast, typed: Typed) -> Copied<Moded>
+fn moded_with(alloc: Global, program: &Moded, cast: &Cast, typed: Typed) -> Rewritten<Moded>
     requires { typed ≡ resolution_with cast.now program.now.typed }
     ensures { IfOk result (λ new. new ≡ assignment_with cast.now program.now) }
 {

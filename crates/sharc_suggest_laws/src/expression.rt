@@ -5,14 +5,14 @@ ghost use Rattle.sharc_tree.specs.Tree.{identifier, call, spawn, cast, field, bi
 ghost use Rattle.sharc_tree.specs.View.{view_expr, view_arguments};
 ghost use Rattle.sharc_suggest_laws.specs.Recast.{type_at, is_there, around, with_cast, all_with_cast};
 
-use crate::written::{Copied, Recast};
+use crate::written::{Recast, Rewritten};
 use sharc_tree::held::{both, in_box};
 use sharc_tree::token::{Site, Span};
 use sharc_tree::tree::{BinaryOperator, Expr, FieldOperator, Identifier, WrittenType};
 use std::alloc::Global;
 
 /// The type of the cast, at these tokens.
-fn type_at(alloc: Global, c: &Recast, span: Span) -> Copied<WrittenType>
+fn type_at(alloc: Global, c: &Recast, span: Span) -> Rewritten<WrittenType>
     ensures { IfOk result (λ t. t ≡ type_at c.now span) }
 {
     let ctype = c.to.copy(alloc)?;
@@ -24,7 +24,7 @@ fn type_at(alloc: Global, c: &Recast, span: Span) -> Copied<WrittenType>
     })
 }
 
-fn cast_of(alloc: Global, span: Span, to: WrittenType, source: Box<Expr>) -> Copied<Expr>
+fn cast_of(alloc: Global, span: Span, to: WrittenType, source: Box<Expr>) -> Rewritten<Expr>
     ensures { IfOk result (λ e. view_expr e ≡ cast span to (view_expr source.value)) }
 {
     let (source, to) = both(source, in_box(alloc, to))?;
@@ -40,7 +40,7 @@ fn is_there(c: &Recast, expr: &Expr) -> bool
 }
 
 /// The cast round this expression.
-fn in_cast(alloc: Global, c: &Recast, span: Span, source: Box<Expr>) -> Copied<Expr>
+fn in_cast(alloc: Global, c: &Recast, span: Span, source: Box<Expr>) -> Rewritten<Expr>
     ensures { IfOk result (λ e. view_expr e ≡ cast span (type_at c.now span) (view_expr source.value)) }
 {
     let (source, to) = both(source, type_at(alloc, c, span))?;
@@ -48,7 +48,7 @@ fn in_cast(alloc: Global, c: &Recast, span: Span, source: Box<Expr>) -> Copied<E
 }
 
 /// The cast round the expression, if it is the one with its tokens.
-fn around(alloc: Global, c: &Recast, expr: Expr) -> Copied<Expr>
+fn around(alloc: Global, c: &Recast, expr: Expr) -> Rewritten<Expr>
     ensures { IfOk result (λ e. view_expr e ≡ around c.now (view_expr expr)) }
 {
     let span = expr.span();
@@ -59,27 +59,27 @@ fn around(alloc: Global, c: &Recast, expr: Expr) -> Copied<Expr>
     }
 }
 
-fn identifier_of(alloc: Global, span: Span, name: &Identifier) -> Copied<Expr>
+fn identifier_of(alloc: Global, span: Span, name: &Identifier) -> Rewritten<Expr>
     ensures { IfOk result (λ e. view_expr e ≡ identifier span name.now) }
 {
     Ok(Expr::Identifier(span, name.copy(alloc)?))
 }
 
-fn call_of(alloc: Global, span: Span, name: &Identifier, arguments: Vec<Expr>) -> Copied<Expr>
+fn call_of(alloc: Global, span: Span, name: &Identifier, arguments: Vec<Expr>) -> Rewritten<Expr>
     ensures { IfOk result (λ e. view_expr e ≡ call span name.now (view_arguments arguments.items)) }
 {
     let (arguments, name) = both(arguments, name.copy(alloc))?;
     Ok(Expr::call(span, name, arguments))
 }
 
-fn spawn_of(alloc: Global, span: Span, name: &Identifier, argument: Box<Expr>) -> Copied<Expr>
+fn spawn_of(alloc: Global, span: Span, name: &Identifier, argument: Box<Expr>) -> Rewritten<Expr>
     ensures { IfOk result (λ e. view_expr e ≡ spawn span name.now (view_expr argument.value)) }
 {
     let (argument, name) = both(argument, name.copy(alloc))?;
     Ok(Expr::Spawn(span, name, argument))
 }
 
-fn old_cast(alloc: Global, span: Span, to: &WrittenType, source: Box<Expr>) -> Copied<Expr>
+fn old_cast(alloc: Global, span: Span, to: &WrittenType, source: Box<Expr>) -> Rewritten<Expr>
     ensures { IfOk result (λ e. view_expr e ≡ cast span to.now (view_expr source.value)) }
 {
     let (source, to) = both(source, to.copy(alloc))?;
@@ -92,7 +92,7 @@ fn field_of(
     base: Box<Expr>,
     access: FieldOperator,
     name: &Identifier,
-) -> Copied<Expr>
+) -> Rewritten<Expr>
     ensures { IfOk result (λ e. view_expr e ≡ field span (view_expr base.value) access name.now) }
 {
     let (base, name) = both(base, name.copy(alloc))?;
@@ -124,7 +124,7 @@ fn binary_of(
 
 /// An expression with the cast written in it.
 #[cycle(expr)]
-pub(crate) fn expression(alloc: Global, c: &Recast, expr: &Expr) -> Copied<Expr>
+pub(crate) fn expression(alloc: Global, c: &Recast, expr: &Expr) -> Rewritten<Expr>
     ensures { IfOk result (λ e. view_expr e ≡ with_cast c.now (view_expr expr.now)) }
 {
     match expr {
@@ -167,7 +167,7 @@ pub(crate) fn expression(alloc: Global, c: &Recast, expr: &Expr) -> Copied<Expr>
 
 /// The same in a box.
 #[cycle(expr)]
-pub(crate) fn boxed(alloc: Global, c: &Recast, expr: &Expr) -> Copied<Box<Expr>>
+pub(crate) fn boxed(alloc: Global, c: &Recast, expr: &Expr) -> Rewritten<Box<Expr>>
     ensures { IfOk result (λ b. view_expr b.value ≡ with_cast c.now (view_expr expr.now)) }
 {
     in_box(alloc, expression(alloc, c, expr)?)
@@ -175,7 +175,7 @@ pub(crate) fn boxed(alloc: Global, c: &Recast, expr: &Expr) -> Copied<Box<Expr>>
 
 /// An expression whose value is passed, assigned or returned.
 #[cycle(expr)]
-pub(crate) fn value(alloc: Global, c: &Recast, expr: &Expr) -> Copied<Expr>
+pub(crate) fn value(alloc: Global, c: &Recast, expr: &Expr) -> Rewritten<Expr>
     ensures { IfOk result (λ e. view_expr e ≡ around c.now (with_cast c.now (view_expr expr.now))) }
 {
     let written = expression(alloc, c, expr)?;
@@ -184,14 +184,14 @@ pub(crate) fn value(alloc: Global, c: &Recast, expr: &Expr) -> Copied<Expr>
 
 /// The same in a box.
 #[cycle(expr)]
-pub(crate) fn boxed_value(alloc: Global, c: &Recast, expr: &Expr) -> Copied<Box<Expr>>
+pub(crate) fn boxed_value(alloc: Global, c: &Recast, expr: &Expr) -> Rewritten<Box<Expr>>
     ensures { IfOk result (λ b. view_expr b.value ≡ around c.now (with_cast c.now (view_expr expr.now))) }
 {
     in_box(alloc, value(alloc, c, expr)?)
 }
 
 #[cycle(expr)]
-fn arguments(alloc: Global, c: &Recast, list: &[Expr]) -> Copied<Vec<Expr>>
+fn arguments(alloc: Global, c: &Recast, list: &[Expr]) -> Rewritten<Vec<Expr>>
     ensures { IfOk result (λ v. view_arguments v.items ≡ all_with_cast c.now (view_arguments list.now)) }
 {
     let mut written = Vec::with_capacity(alloc, list.len())?;

@@ -5,12 +5,16 @@ ghost use Rattle.sharc_tree.specs.View.{view_function, view_item, view_items, vi
 ghost use Rattle.sharc_suggest_laws.specs.Recast.{function_with_cast, item_with_cast, program_with_cast};
 
 use crate::statement::statements;
-use crate::written::{Copied, Recast};
+use crate::written::{Recast, Rewritten};
 use sharc_tree::held::both;
 use sharc_tree::tree::{FunctionDefinition, Item, Items, Program};
 use std::alloc::{AllocError, Global};
 
-fn function(alloc: Global, c: &Recast, function: &FunctionDefinition) -> Copied<FunctionDefinition>
+fn function(
+    alloc: Global,
+    c: &Recast,
+    function: &FunctionDefinition,
+) -> Rewritten<FunctionDefinition>
     ensures { IfOk result (λ f. view_function f ≡ function_with_cast c.now (view_function function.now)) }
 {
     let result = function.result.copy(alloc)?;
@@ -31,7 +35,7 @@ fn function(alloc: Global, c: &Recast, function: &FunctionDefinition) -> Copied<
     })
 }
 
-fn item(alloc: Global, c: &Recast, item: &Item) -> Copied<Item>
+fn item(alloc: Global, c: &Recast, item: &Item) -> Rewritten<Item>
     ensures { IfOk result (λ i. view_item i ≡ item_with_cast c.now (view_item item.now)) }
 {
     match item {
@@ -41,7 +45,7 @@ fn item(alloc: Global, c: &Recast, item: &Item) -> Copied<Item>
     }
 }
 
-fn items(alloc: Global, c: &Recast, list: &[Item]) -> Copied<Vec<Item>>
+fn items(alloc: Global, c: &Recast, list: &[Item]) -> Rewritten<Vec<Item>>
     ensures { IfOk result (λ v. view_items v.items ≡ map (item_with_cast c.now) (view_items list.now)) }
 {
     let mut written = Vec::with_capacity(alloc, list.len())?;

@@ -3,13 +3,13 @@
 ghost use Rattle.std.specs.Prelude.{◌≡◌, ◌≤◌, ◌++◌, drop, length, map, replicate, IfOk, OnOk};
 ghost use Rattle.sharc_suggest_laws.specs.Applied.{written_or, targets, inserted, moved};
 
-use crate::written::Copied;
+use crate::written::Rewritten;
 use sharc_mode::position::Reason;
 use sharc_tree::ctype::Mode;
 use std::alloc::{AllocError, Global};
 
 /// Adds these modes.
-fn add_modes(alloc: Global, modes: &[Mode], list: &mut Vec<Mode>) -> Copied<()>
+fn add_modes(alloc: Global, modes: &[Mode], list: &mut Vec<Mode>) -> Rewritten<()>
     ensures { OnOk result (list.new.items ≡ list.old.items ++ modes.now) }
 {
     for mode in modes {
@@ -18,7 +18,7 @@ fn add_modes(alloc: Global, modes: &[Mode], list: &mut Vec<Mode>) -> Copied<()>
     Ok(())
 }
 
-fn written_or(alloc: Global, level: &Option<Mode>) -> Copied<Mode>
+fn written_or(alloc: Global, level: &Option<Mode>) -> Rewritten<Mode>
     ensures { IfOk result (λ m. m ≡ written_or level.now) }
 {
     match level {
@@ -28,7 +28,7 @@ fn written_or(alloc: Global, level: &Option<Mode>) -> Copied<Mode>
 }
 
 /// Adds the modes of these levels.
-fn add_levels(alloc: Global, levels: &[Option<Mode>], list: &mut Vec<Mode>) -> Copied<()>
+fn add_levels(alloc: Global, levels: &[Option<Mode>], list: &mut Vec<Mode>) -> Rewritten<()>
     ensures { OnOk result (list.new.items ≡ list.old.items ++ map written_or levels.now) }
 {
     for level in levels {
@@ -53,7 +53,7 @@ pub(crate) fn modes_with(
     first: usize,
     levels: &[Option<Mode>],
     modes: &[Mode],
-) -> Copied<Vec<Mode>>
+) -> Rewritten<Vec<Mode>>
     requires { first ≤ length modes.now }
     ensures { IfOk result (λ list. list.items ≡ inserted first (targets levels.now) modes.now) }
 {
@@ -65,7 +65,7 @@ pub(crate) fn modes_with(
 }
 
 /// The same reason where this many positions are new from a first one on.
-fn moved(first: u32, count: u32, reason: Option<Reason>) -> Copied<Option<Reason>>
+fn moved(first: u32, count: u32, reason: Option<Reason>) -> Rewritten<Option<Reason>>
     ensures { IfOk result (λ r. r ≡ moved first count reason) }
 {
     match reason {
@@ -90,7 +90,7 @@ fn all_moved(
     first: u32,
     count: u32,
     reasons: &[Option<Reason>],
-) -> Copied<Vec<Option<Reason>>>
+) -> Rewritten<Vec<Option<Reason>>>
     ensures { IfOk result (λ list. list.items ≡ map (moved first count) reasons.now) }
 {
     let mut list = Vec::with_capacity(alloc, reasons.len())?;
@@ -100,7 +100,7 @@ fn all_moved(
     Ok(list)
 }
 
-fn add_none(count: u32, list: &mut Vec<Option<Reason>>) -> Copied<()>
+fn add_none(count: u32, list: &mut Vec<Option<Reason>>) -> Rewritten<()>
     ensures { OnOk result (list.new.items ≡ list.old.items ++ replicate count None) }
 {
     for _made in 0..count {
@@ -115,7 +115,7 @@ pub(crate) fn reasons_with(
     first: u32,
     count: u32,
     reasons: &[Option<Reason>],
-) -> Copied<Vec<Option<Reason>>>
+) -> Rewritten<Vec<Option<Reason>>>
     requires { first ≤ length reasons.now }
     ensures { IfOk result (λ list. list.items
         ≡ map (moved first count) (inserted first (replicate count None) reasons.now)) }

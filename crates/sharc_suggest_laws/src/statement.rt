@@ -9,13 +9,13 @@ ghost use Rattle.sharc_suggest_laws.specs.Recast.{local_with_cast, first_with_ca
 ghost use Rattle.sharc_suggest_laws.specs.Recast.{statement_with_cast, statements_with_cast};
 
 use crate::expression::{boxed, boxed_value, expression, value};
-use crate::written::{Copied, Recast};
+use crate::written::{Recast, Rewritten};
 use sharc_tree::held::{both, in_box};
 use sharc_tree::token::Span;
 use sharc_tree::tree::{Expr, ForFirst, ForHead, Local, Right, Simple, Stmt};
 use std::alloc::Global;
 
-fn optional(alloc: Global, c: &Recast, expr: &Option<Expr>) -> Copied<Option<Expr>>
+fn optional(alloc: Global, c: &Recast, expr: &Option<Expr>) -> Rewritten<Option<Expr>>
     ensures { IfOk result (λ e. view_option view_expr e
         ≡ option_map (with_cast c.now) (view_option view_expr expr.now)) }
 {
@@ -25,7 +25,7 @@ fn optional(alloc: Global, c: &Recast, expr: &Option<Expr>) -> Copied<Option<Exp
     }
 }
 
-fn right(alloc: Global, c: &Recast, right: &Right) -> Copied<Right>
+fn right(alloc: Global, c: &Recast, right: &Right) -> Rewritten<Right>
     ensures { IfOk result (λ r. view_right r ≡ right_with_cast c.now (view_right right.now)) }
 {
     match right {
@@ -38,7 +38,7 @@ fn right(alloc: Global, c: &Recast, right: &Right) -> Copied<Right>
     }
 }
 
-fn simple_of(alloc: Global, c: &Recast, simple: &Simple) -> Copied<Simple>
+fn simple_of(alloc: Global, c: &Recast, simple: &Simple) -> Rewritten<Simple>
     ensures { IfOk result (λ s. view_simple s ≡ simple_with_cast c.now (view_simple simple.now)) }
 {
     match simple {
@@ -51,7 +51,7 @@ fn simple_of(alloc: Global, c: &Recast, simple: &Simple) -> Copied<Simple>
     }
 }
 
-fn initial(alloc: Global, c: &Recast, initial: &Option<Right>) -> Copied<Option<Right>>
+fn initial(alloc: Global, c: &Recast, initial: &Option<Right>) -> Rewritten<Option<Right>>
     ensures { IfOk result (λ r. view_option view_right r
         ≡ option_map (right_with_cast c.now) (view_option view_right initial.now)) }
 {
@@ -61,7 +61,7 @@ fn initial(alloc: Global, c: &Recast, initial: &Option<Right>) -> Copied<Option<
     }
 }
 
-fn local_of(alloc: Global, c: &Recast, local: &Local) -> Copied<Local>
+fn local_of(alloc: Global, c: &Recast, local: &Local) -> Rewritten<Local>
     ensures { IfOk result (λ l. view_local l ≡ local_with_cast c.now (view_local local.now)) }
 {
     let declaration = local.declaration.copy(alloc)?;
@@ -73,7 +73,7 @@ fn local_of(alloc: Global, c: &Recast, local: &Local) -> Copied<Local>
     })
 }
 
-fn first(alloc: Global, c: &Recast, first: &ForFirst) -> Copied<ForFirst>
+fn first(alloc: Global, c: &Recast, first: &ForFirst) -> Rewritten<ForFirst>
     ensures { IfOk result (λ f. view_first f ≡ first_with_cast c.now (view_first first.now)) }
 {
     match first {
@@ -83,7 +83,7 @@ fn first(alloc: Global, c: &Recast, first: &ForFirst) -> Copied<ForFirst>
     }
 }
 
-fn step(alloc: Global, c: &Recast, step: &Option<Simple>) -> Copied<Option<Simple>>
+fn step(alloc: Global, c: &Recast, step: &Option<Simple>) -> Rewritten<Option<Simple>>
     ensures { IfOk result (λ s. view_option view_simple s
         ≡ option_map (simple_with_cast c.now) (view_option view_simple step.now)) }
 {
@@ -97,7 +97,7 @@ fn test_and_step(
     alloc: Global,
     c: &Recast,
     head: &ForHead,
-) -> Copied<(Option<Expr>, Option<Simple>)>
+) -> Rewritten<(Option<Expr>, Option<Simple>)>
     ensures test { IfOk result (λ r. view_option view_expr r.0
         ≡ option_map (with_cast c.now) (view_option view_expr head.now.test)) }
     ensures step { IfOk result (λ r. view_option view_simple r.1
@@ -107,7 +107,7 @@ fn test_and_step(
     both(test, step(alloc, c, &head.step))
 }
 
-fn head_of(alloc: Global, c: &Recast, head: &ForHead) -> Copied<ForHead>
+fn head_of(alloc: Global, c: &Recast, head: &ForHead) -> Rewritten<ForHead>
     ensures { IfOk result (λ h. view_head h ≡ head_with_cast c.now (view_head head.now)) }
 {
     let first = first(alloc, c, &head.first)?;
@@ -115,21 +115,21 @@ fn head_of(alloc: Global, c: &Recast, head: &ForHead) -> Copied<ForHead>
     Ok(ForHead { first, test, step })
 }
 
-fn declare_of(alloc: Global, c: &Recast, span: Span, local: &Local) -> Copied<Stmt>
+fn declare_of(alloc: Global, c: &Recast, span: Span, local: &Local) -> Rewritten<Stmt>
     ensures { IfOk result (λ s. view_stmt s ≡ declare span (local_with_cast c.now (view_local local.now))) }
 {
     let local = local_of(alloc, c, local)?;
     Ok(Stmt::Declare(span, in_box(alloc, local)?))
 }
 
-fn simple_statement(alloc: Global, c: &Recast, span: Span, does: &Simple) -> Copied<Stmt>
+fn simple_statement(alloc: Global, c: &Recast, span: Span, does: &Simple) -> Rewritten<Stmt>
     ensures { IfOk result (λ s. view_stmt s ≡ simple span (simple_with_cast c.now (view_simple does.now))) }
 {
     let does = simple_of(alloc, c, does)?;
     Ok(Stmt::Simple(span, in_box(alloc, does)?))
 }
 
-fn return_of(alloc: Global, c: &Recast, span: Span, returned: &Option<Box<Expr>>) -> Copied<Stmt>
+fn return_of(alloc: Global, c: &Recast, span: Span, returned: &Option<Box<Expr>>) -> Rewritten<Stmt>
     ensures { IfOk result (λ s. view_stmt s ≡ return span
         (option_map (λ a. around c.now (with_cast c.now a)) (view_option (λ b. view_expr b.value) returned.now))) }
 {
@@ -139,7 +139,7 @@ fn return_of(alloc: Global, c: &Recast, span: Span, returned: &Option<Box<Expr>>
     }
 }
 
-fn if_of(alloc: Global, c: &Recast, span: Span, test: &Expr, then: Box<Stmt>) -> Copied<Stmt>
+fn if_of(alloc: Global, c: &Recast, span: Span, test: &Expr, then: Box<Stmt>) -> Rewritten<Stmt>
     ensures { IfOk result (λ s. view_stmt s
         ≡ if_then span (with_cast c.now (view_expr test.now)) (view_stmt then.value)) }
 {
@@ -154,7 +154,7 @@ fn if_else_of(
     test: &Expr,
     then: Box<Stmt>,
     otherwise: Box<Stmt>,
-) -> Copied<Stmt>
+) -> Rewritten<Stmt>
     ensures { IfOk result (λ s. view_stmt s
         ≡ if_then_else span (with_cast c.now (view_expr test.now)) (view_stmt then.value) (view_stmt otherwise.value)) }
 {
@@ -167,7 +167,7 @@ fn if_else_of(
     })
 }
 
-fn while_of(alloc: Global, c: &Recast, span: Span, test: &Expr, body: Box<Stmt>) -> Copied<Stmt>
+fn while_of(alloc: Global, c: &Recast, span: Span, test: &Expr, body: Box<Stmt>) -> Rewritten<Stmt>
     ensures { IfOk result (λ s. view_stmt s
         ≡ while span (with_cast c.now (view_expr test.now)) (view_stmt body.value)) }
 {
@@ -175,13 +175,13 @@ fn while_of(alloc: Global, c: &Recast, span: Span, test: &Expr, body: Box<Stmt>)
     Ok(Stmt::While(span, test, body))
 }
 
-fn boxed_head(alloc: Global, c: &Recast, head: &ForHead) -> Copied<Box<ForHead>>
+fn boxed_head(alloc: Global, c: &Recast, head: &ForHead) -> Rewritten<Box<ForHead>>
     ensures { IfOk result (λ b. view_head b.value ≡ head_with_cast c.now (view_head head.now)) }
 {
     in_box(alloc, head_of(alloc, c, head)?)
 }
 
-fn for_of(alloc: Global, c: &Recast, span: Span, head: &ForHead, body: Box<Stmt>) -> Copied<Stmt>
+fn for_of(alloc: Global, c: &Recast, span: Span, head: &ForHead, body: Box<Stmt>) -> Rewritten<Stmt>
     ensures { IfOk result (λ s. view_stmt s
         ≡ for span (head_with_cast c.now (view_head head.now)) (view_stmt body.value)) }
 {
@@ -191,7 +191,7 @@ fn for_of(alloc: Global, c: &Recast, span: Span, head: &ForHead, body: Box<Stmt>
 
 /// A statement with the cast written in it.
 #[cycle(stmt)]
-fn statement(alloc: Global, c: &Recast, stmt: &Stmt) -> Copied<Stmt>
+fn statement(alloc: Global, c: &Recast, stmt: &Stmt) -> Rewritten<Stmt>
     ensures { IfOk result (λ s. view_stmt s ≡ statement_with_cast c.now (view_stmt stmt.now)) }
 {
     match stmt {
@@ -229,7 +229,7 @@ fn statement(alloc: Global, c: &Recast, stmt: &Stmt) -> Copied<Stmt>
 
 /// The same in a box.
 #[cycle(stmt)]
-fn boxed_statement(alloc: Global, c: &Recast, stmt: &Stmt) -> Copied<Box<Stmt>>
+fn boxed_statement(alloc: Global, c: &Recast, stmt: &Stmt) -> Rewritten<Box<Stmt>>
     ensures { IfOk result (λ b. view_stmt b.value ≡ statement_with_cast c.now (view_stmt stmt.now)) }
 {
     in_box(alloc, statement(alloc, c, stmt)?)
@@ -237,7 +237,7 @@ fn boxed_statement(alloc: Global, c: &Recast, stmt: &Stmt) -> Copied<Box<Stmt>>
 
 /// Statements with the cast written in them.
 #[cycle(stmt)]
-pub(crate) fn statements(alloc: Global, c: &Recast, list: &[Stmt]) -> Copied<Vec<Stmt>>
+pub(crate) fn statements(alloc: Global, c: &Recast, list: &[Stmt]) -> Rewritten<Vec<Stmt>>
     ensures { IfOk result (λ v. view_statements v.items ≡ statements_with_cast c.now (view_statements list.now)) }
 {
     let mut written = Vec::with_capacity(alloc, list.len())?;

@@ -5,7 +5,7 @@ use sharc_tree::token::Site;
 use std::alloc::AllocError;
 
 /// What was written, if memory was not lacking.
-pub type Copied<T> = Result<T, AllocError>;
+pub type Rewritten<T> = Result<T, AllocError>;
 
 /// A sharing cast that is to be written round the expression whose first and last token have these numbers. No token is
 /// added: the cast and its type have the tokens of that expression.
