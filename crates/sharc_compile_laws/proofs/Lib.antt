@@ -1,6 +1,5 @@
 mod Imports
 pub mod Looping
-pub mod Located
 pub mod Ties
 pub mod Tied
 pub mod Tying
