@@ -21,12 +21,12 @@ pub fn path_wants()
     typed_asks_the_same();
     typed_is_framed();
     made_counts();
-    accepted_levels();
     functions_are_named();
     paths_law();
     framed_law();
     log_law();
     path_laws();
+    accepted_levels();
 }
 
 /// So it is of each thread of a checked run of that code, by threads in any order, where the results of the paths of
