@@ -1,6 +1,7 @@
 // The laws, each the contract of a function with calls of other laws alone.
 
-ghost use Rattle.sharc_accepted_laws.specs.{Accepted.{AcceptedIsTyped, GlobalsAreNamed}, Cells.CellsAreTyped};
+ghost use Rattle.sharc_accepted_laws.specs.{Accepted.{AcceptedIsLevel, AcceptedIsTyped, GlobalsAreNamed}};
+ghost use Rattle.sharc_accepted_laws.specs.Cells.{CellsAreTyped};
 ghost use Rattle.sharc_accepted_laws.specs.{Expressions.ExpressionsAreTypable, Programs.CodeIsSet};
 ghost use Rattle.sharc_accepted_laws.specs.Programs.{ProgramsAreTypable};
 
@@ -19,8 +20,8 @@ use sharc_ctype_laws::laws::{
     meets_globals, meets_statements, one_function_of_name, one_type, spawns_name_functions,
     spawns_threads, within_limits,
 };
-use sharc_flat_laws::laws::{made_tables_fit, typed_suits};
-use sharc_typed_laws::statements::code_typed_law;
+use sharc_flat_laws::laws::{made_tables_fit, typed_is_framed, typed_suits};
+use sharc_typed_laws::statements::{code_typed_law, levels_law};
 
 /// Each expression and each lvalue of a function of an accepted program is typable, where its cells are accessed as
 /// their types say.
@@ -123,4 +124,16 @@ pub fn accepted_law()
     settings_law();
     globals_named();
     code_typed_law();
+}
+
+/// And the flat code of which it is made overwrites no reference.
+pub fn accepted_levels()
+    ensures { AcceptedIsLevel }
+{
+    cells_law();
+    programs_law();
+    settings_law();
+    globals_named();
+    levels_law();
+    typed_is_framed();
 }

@@ -1,13 +1,5 @@
 mod Imports
-pub mod Slots
 pub mod Looping
-pub mod Pieces
-pub mod Located
-pub mod Parts
-pub mod Expressing
-pub mod Leaving
-pub mod Stating
-pub mod Program
 pub mod Ties
 pub mod Tied
 pub mod Tying

@@ -1,7 +1,6 @@
-//! Laws: flattened code is as guarded code asks, and threads report what the program asks for.
+//! Laws: flattened code names the mutexes of its locks, and threads report what the program asks for.
 //!
-//! Flattened code is as the laws of guarded code ask: what sharc_guard asks of flat code holds of what sharc_flat says
-//! of a program.
+//! What the laws of guarded code ask of the locks of flat code holds of what sharc_flat says of a program.
 //!
 //! The layer above may use the laws of src/flattened.rt, stated in specs/Laws.antt.
 //!

@@ -11,7 +11,7 @@ use Rattle.sharc_code.specs.{declared.state.Stop.TheVariants.{Conflict, NoLock, 
 use Rattle.sharc_code.specs.{Machine.ref, Runs.Turn, Says.place_at, Whole.{CheckedRun, place_after}}
 use Rattle.sharc_cpu.specs.Thread.{ThreadView}
 use Rattle.sharc_guard.specs.Counted.{IsUnder}
-use Rattle.sharc_compile_laws.specs.Paths.{OfTyped}
+use Rattle.sharc_accepted_laws.specs.Accepted.{OfSources}
 use Rattle.sharc_invariant.specs.{Types.Targets, Labels.Labels, Typed.IsWellTyped, State.IsSmall}
 use Rattle.sharc_history_laws.specs.{Causes.{IsNamed, ShowsCause}, Conflicts.IsCheck}
 use Rattle.sharc_history_laws.specs.{Followed.{ShowsLock, access_checked}, History.history_of, Reports.FindsOthers}
@@ -97,7 +97,7 @@ AccessesAreWanted m code = (x : Targets) (s : Shape) (ls : Labels) → IsWellTyp
     → ThreadWantsAccess m code (history_of code s before) check.thread site a
 
 abbrev pub TypedAccessesAreWanted : Type 0
-TypedAccessesAreWanted = OfTyped AccessesAreWanted
+TypedAccessesAreWanted = OfSources AccessesAreWanted
 
 -- and by the events of the whole run it wants the access of the check that was refused
 pub record WantsRefusedAccess (m : Assignment) (code : Code) (s : Shape) (run : List Turn) (t : ℕ) (c : ConflictAt)
@@ -114,7 +114,7 @@ RefusedAreWanted m code = (x : Targets) (s : Shape) (ls : Labels) → IsWellType
     → (shown : ShowsCause code s run t c j kind site) → WantsRefusedAccess m code s run t c (access_refused shown)
 
 abbrev pub TypedRefusedAreWanted : Type 0
-TypedRefusedAreWanted = OfTyped RefusedAreWanted
+TypedRefusedAreWanted = OfSources RefusedAreWanted
 
 -- and of the mutex that a refused lock check looks for
 pub record ThreadWantsMutex (m : Assignment) (code : Code) (s : Shape) (run : List Turn) (t site word : ℕ)
@@ -131,7 +131,7 @@ LocksAreWanted m code = (x : Targets) (s : Shape) (ls : Labels) → IsWellTyped 
     → ThreadWantsMutex m code s run t site word shows
 
 abbrev pub TypedLocksAreWanted : Type 0
-TypedLocksAreWanted = OfTyped LocksAreWanted
+TypedLocksAreWanted = OfSources LocksAreWanted
 
 -- and what is given or freed where a test of a reference was refused
 abbrev pub GivenAreTested : Assignment → Code → Type 0
@@ -142,4 +142,4 @@ GivenAreTested m code = (x : Targets) (s : Shape) (ls : Labels) → IsWellTyped 
     → number_of wants_it.refused.0 ≡ object_tested finds
 
 abbrev pub TypedGivenAreTested : Type 0
-TypedGivenAreTested = OfTyped GivenAreTested
+TypedGivenAreTested = OfSources GivenAreTested

@@ -6,7 +6,6 @@ ghost use Rattle.sharc_reply_laws.specs.{Reports.TypedRefusedAreWanted, Runs.Bui
 
 use crate::events::{prints_law, refused_stay, stops_law, texts_begin_with_prints, turns_tell_own};
 use crate::replies::{records_are_told, sources_are_one, verdicts_are_told};
-use sharc_build::fronts_are_typed;
 use sharc_code::{range_laws, run_laws};
 use sharc_compile_laws::typed_paths_tell;
 use sharc_history_laws::{paths_law, seen_law};
@@ -14,10 +13,10 @@ use sharc_seq::enabled_laws;
 use sharc_sound_laws::built::built_is_typed;
 use sharc_sound_laws::stand::typed_runs_stand;
 use sharc_sound_laws::{
-    built_is_sound_if_typed, built_obeying_is_unreported_if_typed, built_reports_show_if_typed,
-    built_stuck_is_deadlock_if_typed, made_code_begins, threads_stand_if_typed,
+    built_is_sound_if_typed, built_is_source, built_obeying_is_unreported_if_typed,
+    built_reports_show_if_typed, built_stuck_is_deadlock_if_typed, made_code_begins,
+    threads_stand_if_typed,
 };
-use sharc_source_laws::laws::numbers_have_no_sign;
 use sharc_wants_laws::followed_law;
 use sharc_wants_laws::sole::{
     functions_are_one_by_name, reports_show_cause, tested_are_only, testers_give,
@@ -87,9 +86,8 @@ pub fn built_runs_tell()
     ensures { BuiltRunsTell }
 {
     built_is_typed();
-    fronts_are_typed();
+    built_is_source();
     range_laws();
-    numbers_have_no_sign();
     made_code_begins();
     built_is_sound_if_typed();
     built_obeying_is_unreported_if_typed();

@@ -8,11 +8,10 @@ use Rattle.sharc_code.specs.Whole.{CheckedRun, Stuck, place_after}
 use Rattle.sharc_flat.specs.{declared.flat.Flat.{Flat as FlatCode}, Made.flat_of, Laws.FitsMade, Flattens.Flattens}
 use Rattle.sharc_meaning.specs.Runs.{SourceRun}
 use Rattle.sharc_compile.specs.Made.{IsCodeOf}
-use Rattle.sharc_flat_laws.specs.Typed.{IsTypedProgram}
+use Rattle.sharc_accepted_laws.specs.Accepted.{IsSourceProgram}
 use Rattle.sharc_invariant.specs.{Types.Targets, Labels.Labels, Typed.IsWellTyped, State.IsSmall}
 use Rattle.sharc_history_laws.specs.History.{history_of}
 use Rattle.sharc_build.specs.{declared.building.Built.Built, Built.IsBuilt}
-use Rattle.sharc_sound_laws.specs.Begins.{AreUnsigned}
 
 -- no event of a thread that was not stopped extends the events of the run to a source run
 abbrev pub IsDeadlock : Assignment → Code → Shape → List Turn → Type 0
@@ -20,7 +19,7 @@ IsDeadlock m code s run = (e : SourceEvent) → ((place_after code s run).thread
     → SourceRun m (history_of code s run ++ e ∷ []) → ⊥
 
 abbrev pub StuckIsDeadlockIfTyped : Type 0
-StuckIsDeadlockIfTyped = (m : Assignment) → IsTypedProgram m → AreUnsigned m.typed
+StuckIsDeadlockIfTyped = (m : Assignment) → IsSourceProgram m
     → (flat : FlatCode) → Flattens m flat → FitsMade (flat_of flat) → (code : Code) → IsCodeOf flat code
     → (x : Targets) (ls : Labels) → IsWellTyped x code ls → (s : Shape) → Fits code s → IsSmall code s
     → (run : List Turn) → CheckedRun code s run → Stuck code s run → IsDeadlock m code s run

@@ -7,10 +7,9 @@ use Rattle.sharc_code.specs.Whole.{CheckedRun, place_after}
 use Rattle.sharc_flat.specs.{declared.flat.Flat.{Flat as FlatCode}, Made.flat_of, Laws.FitsMade, Flattens.Flattens}
 use Rattle.sharc_meaning.specs.Obeys.{AlwaysObeys}
 use Rattle.sharc_compile.specs.Made.{IsCodeOf}
-use Rattle.sharc_flat_laws.specs.Typed.{IsTypedProgram}
+use Rattle.sharc_accepted_laws.specs.Accepted.{IsSourceProgram}
 use Rattle.sharc_invariant.specs.{Types.Targets, Labels.Labels, Typed.IsWellTyped, State.IsSmall}
 use Rattle.sharc_build.specs.{declared.building.Built.Built, Built.IsBuilt}
-use Rattle.sharc_sound_laws.specs.Begins.{AreUnsigned}
 
 -- A1, A2 and A3: the check of an access was refused
 abbrev pub IsAccessReport : Stop → Type 0
@@ -25,7 +24,7 @@ NoAccessReport code s run = (t : ℕ) (stop : Stop) → ((place_after code s run
 
 -- in no checked run, by threads in any order, of the code of a program whose source runs all obey
 abbrev pub ObeyingIsUnreportedIfTyped : Type 0
-ObeyingIsUnreportedIfTyped = (m : Assignment) → IsTypedProgram m → AreUnsigned m.typed
+ObeyingIsUnreportedIfTyped = (m : Assignment) → IsSourceProgram m
     → (flat : FlatCode) → Flattens m flat → FitsMade (flat_of flat) → (code : Code) → IsCodeOf flat code
     → (x : Targets) (ls : Labels) → IsWellTyped x code ls → AlwaysObeys m → (s : Shape) → Fits code s → IsSmall code s
     → (run : List Turn) → CheckedRun code s run → NoAccessReport code s run

@@ -10,7 +10,7 @@ use Rattle.sharc_code.specs.{Says.place_at, Whole.{CheckedRun, place_after}}
 use Rattle.sharc_flat.specs.{declared.flat.Flat.{Flat as FlatCode}, Made.flat_of, Laws.FitsMade, Flattens.Flattens}
 use Rattle.sharc_meaning.specs.{Meaning.Asked, Obeys.History, State.{wants, event_of}}
 use Rattle.sharc_compile.specs.{Made.IsCodeOf, Refused.{IsRefused, IsReport, site_of}}
-use Rattle.sharc_flat_laws.specs.Typed.{IsTypedProgram}
+use Rattle.sharc_accepted_laws.specs.Accepted.{IsSourceProgram}
 use Rattle.sharc_invariant.specs.{Types.Targets, Labels.Labels, Typed.IsWellTyped, State.IsSmall}
 use Rattle.sharc_history_laws.specs.{Causes.{HasNamed, IsNamed, ShowsCause}, Followed.ShowsLock, History.history_of}
 use Rattle.sharc_history_laws.specs.Reports.{FindsOthers}
@@ -45,8 +45,8 @@ pub record IsReportOf (m : Assignment) (x : Targets) (code : Code) (s : Shape) (
 
 -- so it is of each report A1 to A4 of every checked run, by threads in any order
 abbrev pub ReportsShowIfTyped : Type 0
-ReportsShowIfTyped = (m : Assignment) → IsTypedProgram m → (flat : FlatCode) → Flattens m flat → FitsMade (flat_of flat)
-    → (code : Code) → IsCodeOf flat code
+ReportsShowIfTyped = (m : Assignment) → IsSourceProgram m
+    → (flat : FlatCode) → Flattens m flat → FitsMade (flat_of flat) → (code : Code) → IsCodeOf flat code
     → (x : Targets) (ls : Labels) → IsWellTyped x code ls → (s : Shape) → Fits code s → IsSmall code s
     → (run : List Turn) → CheckedRun code s run
     → (t : ℕ) (stop : Stop) → ((place_after code s run).threads t).at.state ≡ Stopped

@@ -9,7 +9,7 @@ use Rattle.sharc_flat.specs.{declared.flat.Flat.{Flat as FlatCode}, Made.flat_of
 use Rattle.sharc_meaning.specs.{Events.{events_of, holds_mutex}, Meaning.{Asked, asks}, Obeys.History}
 use Rattle.sharc_meaning.specs.{Runs.{Follows, answers_of}, State.ended}
 use Rattle.sharc_compile.specs.{Made.IsCodeOf, Refused.WantsRefused}
-use Rattle.sharc_flat_laws.specs.Typed.{IsTypedProgram}
+use Rattle.sharc_accepted_laws.specs.Accepted.{IsSourceProgram}
 use Rattle.sharc_invariant.specs.{Types.Targets, Labels.Labels, Typed.IsWellTyped, State.IsSmall}
 use Rattle.sharc_history_laws.specs.History.{history_of}
 use Rattle.sharc_wants_laws.specs.Wants.{IsNotThere, WantsBy}
@@ -33,7 +33,7 @@ pub record IsPlaced (m : Assignment) (code : Code) (R : History) (thread : ℕ) 
 -- so it is of each thread of every checked run of the code of a typed, well-moded program, if that code is typed; or
 -- the thread has made no event and is at the code's first instruction
 abbrev pub ThreadsStandIfTyped : Type 0
-ThreadsStandIfTyped = (m : Assignment) → IsTypedProgram m
+ThreadsStandIfTyped = (m : Assignment) → IsSourceProgram m
     → (flat : FlatCode) → Flattens m flat → FitsMade (flat_of flat) → (code : Code) → IsCodeOf flat code
     → (x : Targets) (ls : Labels) → IsWellTyped x code ls → (s : Shape) → Fits code s → IsSmall code s
     → (run : List Turn) → CheckedRun code s run → (thread : ℕ)

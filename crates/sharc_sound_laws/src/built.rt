@@ -6,22 +6,19 @@ ghost use Rattle.sharc_sound_laws.specs.{BuiltSound.BuiltIsSound, BuiltStands.Bu
 
 use crate::stand::typed_runs_stand;
 use crate::{
-    built_is_sound_if_typed, built_obeying_is_unreported_if_typed, built_reports_show_if_typed,
-    built_stuck_is_deadlock_if_typed, made_code_begins,
+    built_is_sound_if_typed, built_is_source, built_obeying_is_unreported_if_typed,
+    built_reports_show_if_typed, built_stuck_is_deadlock_if_typed, made_code_begins,
 };
 use sharc_accepted_laws::accepted::accepted_law;
 use sharc_build::fronts_are_typed;
 use sharc_code::range_laws;
-use sharc_source_laws::laws::{each_constant_is_held, numbers_have_no_sign};
 use sharc_wants_laws::sole::reports_show_cause;
 
 /// The code that is built of a source is typed.
 pub fn built_is_typed()
     ensures { BuiltIsTyped }
 {
-    fronts_are_typed();
-    numbers_have_no_sign();
-    each_constant_is_held();
+    built_is_source();
     accepted_law();
 }
 
@@ -65,8 +62,7 @@ pub fn built_casts_show()
     ensures { BuiltCastsShow }
 {
     built_is_typed();
-    fronts_are_typed();
-    numbers_have_no_sign();
+    built_is_source();
     range_laws();
     made_code_begins();
     reports_show_cause();

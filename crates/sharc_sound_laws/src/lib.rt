@@ -19,8 +19,9 @@ pub mod stand;
 pub use alike::{compiled_are_alike, histories_are_alike, runs_are_alike};
 pub use causes::others_law;
 pub use sound::{
-    built_is_faithful, built_is_sound_if_typed, built_obeying_is_unreported_if_typed,
-    built_reports_show_if_typed, built_stuck_is_deadlock_if_typed, compiled_is_faithful,
-    made_code_begins, obeying_is_unreported_if_typed, one_is_next, reports_show_if_typed,
-    sound_if_typed, stuck_is_deadlock_if_typed, threads_stand_if_typed,
+    built_is_faithful, built_is_sound_if_typed, built_is_source,
+    built_obeying_is_unreported_if_typed, built_reports_show_if_typed,
+    built_stuck_is_deadlock_if_typed, compiled_is_faithful, made_code_begins,
+    obeying_is_unreported_if_typed, one_is_next, reports_show_if_typed, sound_if_typed,
+    stuck_is_deadlock_if_typed, threads_stand_if_typed,
 };

@@ -5,7 +5,7 @@ ghost use Rattle.sharc_sound_laws.specs.Deadlock.{BuiltStuckIsDeadlockIfTyped, S
 ghost use Rattle.sharc_sound_laws.specs.{Faithful.{BuiltIsFaithful, CompiledIsFaithful}, Next.OneIsNext};
 ghost use Rattle.sharc_sound_laws.specs.Obeying.{BuiltObeyingIsUnreportedIfTyped, ObeyingIsUnreportedIfTyped};
 ghost use Rattle.sharc_sound_laws.specs.{Reports.{BuiltReportsShowIfTyped, ReportsShowIfTyped}, Sound.SoundIfTyped};
-ghost use Rattle.sharc_sound_laws.specs.Standing.{ThreadsStandIfTyped};
+ghost use Rattle.sharc_sound_laws.specs.{Standing.ThreadsStandIfTyped, Typed.BuiltIsSource};
 
 use sharc_build::fronts_are_typed;
 use sharc_code::{range_laws, run_laws};
@@ -16,7 +16,7 @@ use sharc_history_laws::{
     waiters_law,
 };
 use sharc_meaning::laws::{ask_laws, run_laws as source_run_laws};
-use sharc_source_laws::laws::numbers_have_no_sign;
+use sharc_source_laws::laws::{each_constant_is_held, numbers_have_no_sign};
 use sharc_wants_laws::sole::{functions_are_one_by_name, threads_begin_by_right};
 use sharc_wants_laws::{followed_law as code_is_followed, thread_wants, waits_law};
 
@@ -35,6 +35,16 @@ pub fn built_is_faithful()
     ensures { BuiltIsFaithful }
 {
     compiled_is_faithful();
+}
+
+/// The source of such code is a typed, well-moded program, whose constants are held by their types and whose numbers
+/// have no sign.
+pub fn built_is_source()
+    ensures { BuiltIsSource }
+{
+    fronts_are_typed();
+    each_constant_is_held();
+    numbers_have_no_sign();
 }
 
 /// The globals of the code of a typed program hold at first what their definitions say, if the numbers at which they
@@ -111,8 +121,7 @@ pub fn stuck_is_deadlock_if_typed()
 pub fn built_stuck_is_deadlock_if_typed()
     ensures { BuiltStuckIsDeadlockIfTyped }
 {
-    fronts_are_typed();
-    numbers_have_no_sign();
+    built_is_source();
     range_laws();
     stuck_is_deadlock_if_typed();
 }
@@ -138,8 +147,7 @@ pub fn obeying_is_unreported_if_typed()
 pub fn built_obeying_is_unreported_if_typed()
     ensures { BuiltObeyingIsUnreportedIfTyped }
 {
-    fronts_are_typed();
-    numbers_have_no_sign();
+    built_is_source();
     range_laws();
     obeying_is_unreported_if_typed();
 }
@@ -163,7 +171,7 @@ pub fn reports_show_if_typed()
 pub fn built_reports_show_if_typed()
     ensures { BuiltReportsShowIfTyped }
 {
-    fronts_are_typed();
+    built_is_source();
     range_laws();
     reports_show_if_typed();
 }

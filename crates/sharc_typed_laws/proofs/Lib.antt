@@ -23,6 +23,8 @@ pub mod Indexes
 pub mod LabelsPlacing
 pub mod Law
 pub mod Leaving
+pub mod Level
+pub mod LevelProgram
 pub mod Lines
 pub mod Locking
 pub mod Losing

@@ -180,6 +180,6 @@ module _ (typed_lines : LinesAreTyped) (tell : LinesTell) (know : LinesKnow) (fu
   }
 
 pub programs_typed : LinesAreTyped → LinesTell → LinesKnow → FunctionsAreTyped → MadeIsPast → MadeIsFlattened → (m : Assignment) (flat : FlatCode) → Flattens m flat → FitsMade (flat_of flat) → AreGlobalsNamed m → (z : Setting) → IsSettingOf z flat → (y : Typing) → TypableProgram z y m
-    → (fl : FlatLabels) × IsTypedAnyhow z.targets z.code fl (flat_of flat)
+    → (fl : FlatLabels) × IsTypedAnyhow z.targets z.code fl (flat_of flat) × (fl.lines.signature ≡ z.signature)
 programs_typed typed_lines tell know functions made_past made_flat m flat flattens fits known z of y t =
-    (flat_labels z (table typed_lines tell know functions made_past made_flat m flat flattens fits known z of y t), program typed_lines tell know functions made_past made_flat m flat flattens fits known z of y t)
+    (flat_labels z (table typed_lines tell know functions made_past made_flat m flat flattens fits known z of y t), program typed_lines tell know functions made_past made_flat m flat flattens fits known z of y t, refl)

@@ -50,6 +50,15 @@ few_parameters (d ∷ []) le =
     }
 few_parameters (d ∷ (e ∷ ds)) le = absurd (omega (arith, le))
 
+some_by : (b : Bool) (n : ℕ) → cond b Parameter.Reference Parameter.Int ≡ Parameter.Reference → 0 < cond b (n + 1) n
+some_by true n e = omega arith
+some_by false n e = absurd (cc)
+
+-- where a thread is handed a reference, the first register takes it
+pub handed_some : (ds : List Declaration) → parameter_of ds ≡ Parameter.Reference → 0 < ref_count (map slot_of ds)
+handed_some [] e = absurd (cc)
+handed_some (d ∷ ds) e = some_by (is_pointer (declared_kind d.written)) (ref_count (map slot_of ds)) (subst (λ b. cond b Parameter.Reference Parameter.Int ≡ Parameter.Reference) (declared_reference d.written) e)
+
 -- ---- what registers hold at the entry
 past_entry : (n : ℕ) (f : ℕ → StaticType) (p : ℕ) → n ≤ p → cond (nat_lt p n) (Refers (f p)) Empty ≡ Empty
 past_entry n f p le = let e : nat_lt p n ≡ false = grind (arith, nat_tests, le) in ap (λ b. cond b (Refers (f p)) Empty) e

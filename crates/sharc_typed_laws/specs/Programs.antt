@@ -5,8 +5,9 @@ use Rattle.sharc_names.specs.declared.fault.Named.TheVariants as named
 use Rattle.sharc_ctype.specs.Resolved.{globals_in, named_at, function_at}
 use Rattle.sharc_mode.specs.Moded.{Assignment}
 use Rattle.sharc_check.specs.Constructs.{IsExpression}
-use Rattle.sharc_flat.specs.{declared.flat.Flat.{Flat as FlatCode}, Made.flat_of, Correct.MayStart}
+use Rattle.sharc_flat.specs.{declared.flat.Flat.{Flat as FlatCode}, Made.flat_of, Correct.MayStart, Framed.IsFlat}
 use Rattle.sharc_flat.specs.{Flattens.{Flattens, IsMainOf}, Laws.FitsMade, Tables.globals_of}
+use Rattle.sharc_guard.specs.Level.{IsLevel}
 use Rattle.sharc_compile.specs.Made.{IsCodeOf}
 use Rattle.sharc_invariant.specs.{Types.AreTargets, Labels.{Anything, Labels, EntryMentions}}
 use Rattle.sharc_invariant.specs.Typed.{IsPlain, AreGlobals, IsWellTyped}
@@ -46,11 +47,17 @@ pub record IsSettingOf (z : Setting) (flat : FlatCode) : Type 0 where
   pub targets : AreTargets z.targets
   pub globals : AreGlobals z.targets z.code
 
--- The flat code of such a program is typed whatever checks are remembered.
+-- The flat code of such a program is typed whatever checks are remembered, with these signatures.
 abbrev pub ProgramsAreTyped : Type 0
 ProgramsAreTyped = (m : Assignment) (flat : FlatCode) → Flattens m flat → FitsMade (flat_of flat) → AreGlobalsNamed m
     → (z : Setting) → IsSettingOf z flat → (y : Typing) → TypableProgram z y m
-    → (fl : FlatLabels) × IsTypedAnyhow z.targets z.code fl (flat_of flat)
+    → (fl : FlatLabels) × IsTypedAnyhow z.targets z.code fl (flat_of flat) × (fl.lines.signature ≡ z.signature)
+
+-- And it overwrites no reference, where no line leads past the last one.
+abbrev pub ProgramsAreLevel : Type 0
+ProgramsAreLevel = (m : Assignment) (flat : FlatCode) → Flattens m flat → FitsMade (flat_of flat) → AreGlobalsNamed m
+    → (z : Setting) → IsSettingOf z flat → (y : Typing) → TypableProgram z y m → IsFlat (flat_of flat)
+    → IsLevel (flat_of flat)
 
 -- So its code is typed.
 abbrev pub CodeIsWellTyped : Type 0

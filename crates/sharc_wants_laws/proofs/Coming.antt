@@ -5,7 +5,8 @@ use Rattle.sharc_flat.specs.{Laws.FitsMade, Quiet.{PathLaws, given_in}}
 use Rattle.sharc_guard.specs.Framed.{FramedIsGuarded}
 use Rattle.sharc_compile.specs.Correct.{GeneratedKeepsPaths, by}
 use Rattle.sharc_flat_laws.specs.{Stands.{TypedAsksTheSame, TypedIsFramed}, Typed.IsTypedProgram}
-use Rattle.sharc_compile_laws.specs.{Laws.TypedCounts, Names.FunctionsAreNamed, Paths.OfTyped}
+use Rattle.sharc_compile_laws.specs.{Laws.MadeCounts, Names.FunctionsAreNamed}
+use Rattle.sharc_accepted_laws.specs.{Accepted.{AcceptedIsLevel, IsSourceProgram, OfSources}, StaticLaws.IsAccepted}
 
 mapped_at : (f : Instr → Instr) (xs : List Instr) (n : ℕ) → f Exit ≡ Exit → slice_index_or (map f xs) n Exit ≡ f (slice_index_or xs n Exit)
 mapped_at f [] n e = sym e
@@ -53,8 +54,12 @@ is_guarded framed guards m p flat flattens fits code is =
     let d = dropped (flat_of flat) in
     subst IsGuarded (sym (same d flat is.g is.made)) (guards (flat_of flat) d (framed m p.resolved p.placed p.low p.least p.well_moded flat flattens fits).1)
 
-pub paths_come : TypedAsksTheSame → TypedIsFramed → TypedCounts → FunctionsAreNamed → FramedIsGuarded → GeneratedKeepsPaths → PathLaws → OfTyped PathsCome
-paths_come asks framed counts named guards keeps paths m p flat flattens fits code is s thread elements founds path consistent =
+accepted : (m : Assignment) → IsSourceProgram m → IsAccepted m
+accepted m p = record { resolved = p.typed.resolved; placed = p.typed.placed; low = p.typed.low; least = p.typed.least; well = p.typed.well_moded }
+
+pub paths_come : TypedAsksTheSame → TypedIsFramed → MadeCounts → AcceptedIsLevel → FunctionsAreNamed → FramedIsGuarded → GeneratedKeepsPaths → PathLaws → OfSources PathsCome
+paths_come asks framed counts levels named guards keeps paths m source flat flattens fits code is s thread elements founds path consistent =
+    let p = source.typed in
     let d = dropped (flat_of flat) in
     let made = same d flat is.g is.made in
     let first = begun code s thread in
@@ -70,7 +75,7 @@ paths_come asks framed counts named guards keeps paths m p flat flattens fits co
       same = asks m p.resolved p.placed p.low p.least p.well_moded flat flattens;
       drops = d;
       p = guarded d (flat_of flat);
-      guards = counts m p.resolved p.placed p.low p.least p.well_moded flat flattens d;
+      guards = counts m flat flattens (levels m (accepted m source) source.constants source.unsigned flat flattens fits code is) d;
       count = length-map (flat_of flat).functions (entered_at (place d (flat_of flat).lines));
       g = is.g;
       made = made;

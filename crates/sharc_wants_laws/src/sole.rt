@@ -1,5 +1,6 @@
 //! The laws, each the contract of a function that calls at most the laws that it joins.
 
+ghost use Rattle.sharc_accepted_laws.specs.Accepted.{OfSources};
 ghost use Rattle.sharc_compile_laws.specs.Paths.{OfTyped};
 ghost use Rattle.sharc_wants_laws.specs.{Alone.PassedAreAlone, Cause.CastReportsShowCause};
 ghost use Rattle.sharc_wants_laws.specs.Beginning.{FunctionsAreOneByName, ThreadsBeginByRight, ThreadsHaveBegun};
@@ -18,10 +19,11 @@ ghost use Rattle.sharc_wants_laws.specs.{Registered.HeldAreRegistered, Seeing.{C
 ghost use Rattle.sharc_wants_laws.specs.{Silent.SilentHaveNothing, Sole.RegistersAreSeen};
 
 use crate::meant::{held_are_held_on, last_takers, taken_are_being_taken};
+use sharc_accepted_laws::accepted::accepted_levels;
 use sharc_accepted_laws::targets::{global_pointers_are, globals_point};
 use sharc_code::run_laws;
 use sharc_compile::{paths_law, run_paths_law};
-use sharc_compile_laws::flattened::typed_counts;
+use sharc_compile_laws::flattened::made_counts;
 use sharc_compile_laws::{
     functions_are_named, own_are_told, spawned_are_threads, threads_may_start, typed_threads_tell,
 };
@@ -39,11 +41,12 @@ use sharc_meaning::laws::ask_laws;
 /// What the registers of a thread of the code of a typed, well-moded program refer to, on each path whose results are
 /// consistent, the program holds or has given up that was asked by the answers of the thread's own events.
 pub fn path_holds()
-    ensures { OfTyped PathsHold }
+    ensures { OfSources PathsHold }
 {
     typed_asks_the_same();
     typed_is_framed();
-    typed_counts();
+    made_counts();
+    accepted_levels();
     functions_are_named();
     paths_law();
     framed_law();
@@ -53,7 +56,7 @@ pub fn path_holds()
 /// So it is of each thread of a checked run of that code, by threads in any order, where the results of the paths of
 /// all are consistent.
 pub fn thread_holds()
-    ensures { OfTyped ThreadsHold }
+    ensures { OfSources ThreadsHold }
 {
     path_holds();
     run_paths_law();
@@ -63,7 +66,7 @@ pub fn thread_holds()
 /// So what the registers of a thread refer to is among the references of its history, where no reference to it is in
 /// flight.
 pub fn threads_see()
-    ensures { OfTyped ThreadsSee }
+    ensures { OfSources ThreadsSee }
 {
     thread_holds();
     each_names_itself();
@@ -75,12 +78,13 @@ pub fn threads_see()
 /// the thread has loaded it and raises it next. Where the thread looks whether a reference is the only one, each is in
 /// the register of its own place.
 pub fn held_registered()
-    ensures { OfTyped HeldAreRegistered }
+    ensures { OfSources HeldAreRegistered }
 {
     path_holds();
     typed_asks_the_same();
     typed_is_framed();
-    typed_counts();
+    made_counts();
+    accepted_levels();
     functions_are_named();
     each_names_itself();
     paths_law();
@@ -93,7 +97,7 @@ pub fn held_registered()
 /// And where a thread looks whether a reference is the only one, and two of its registers refer to the object, it holds
 /// two references to it.
 pub fn casters_hold()
-    ensures { OfTyped CastersHold }
+    ensures { OfSources CastersHold }
 {
     thread_holds();
     each_names_itself();
@@ -102,7 +106,7 @@ pub fn casters_hold()
 
 /// And what it wants to give or to free there is the object of the reference that it looks at.
 pub fn testers_give()
-    ensures { OfTyped TestersGive }
+    ensures { OfSources TestersGive }
 {
     thread_holds();
     each_names_itself();
@@ -111,7 +115,7 @@ pub fn testers_give()
 
 /// What a Free of a thread has taken out of a cell and not lowered yet is in flight.
 pub fn hands_fly()
-    ensures { OfTyped HandsFly }
+    ensures { OfSources HandsFly }
 {
     thread_holds();
     each_names_itself();
@@ -119,7 +123,7 @@ pub fn hands_fly()
 
 /// And wherever a thread is at a Free before the Freed of the object, the program gives up the pointer cells of that.
 pub fn frees_empty()
-    ensures { OfTyped FreesEmpty }
+    ensures { OfSources FreesEmpty }
 {
     thread_holds();
     each_names_itself();
@@ -140,7 +144,7 @@ pub fn cells_see()
 /// thread's that the history shows, or shows that the thread holds two: if each thread has begun or has nothing, and no
 /// other thread has one in flight.
 pub fn registers_seen()
-    ensures { OfTyped RegistersAreSeen }
+    ensures { OfSources RegistersAreSeen }
 {
     threads_see();
     casters_hold();
@@ -175,7 +179,7 @@ pub fn threads_have_begun()
 
 /// One that has told no event has nothing in its registers or in hand.
 pub fn silent_have_nothing()
-    ensures { OfTyped SilentHaveNothing }
+    ensures { OfSources SilentHaveNothing }
 {
     path_holds();
     run_paths_law();
@@ -202,7 +206,7 @@ pub fn logs_see()
 /// What the report of a refused cast shows: the number was found where the thread tested a reference, and at that place
 /// the references of the history have another one, if no other thread has one in flight.
 pub fn reports_show_cause()
-    ensures { OfTyped CastReportsShowCause }
+    ensures { OfSources CastReportsShowCause }
 {
     history_paths_law();
     reports_law();
@@ -233,7 +237,7 @@ pub fn passed_are_alone()
 /// By the history no other thread holds a reference to the object there, and the thread that tests holds none but the
 /// one that it tests.
 pub fn threads_hold_none()
-    ensures { OfTyped ThreadsHoldNone }
+    ensures { OfSources ThreadsHoldNone }
 {
     run_laws();
     runs_stand();
@@ -276,7 +280,7 @@ pub fn cells_hold_none()
 
 /// What the last event of a thread has taken to free it is live.
 pub fn taken_are_live()
-    ensures { OfTyped TakenAreLive }
+    ensures { OfSources TakenAreLive }
 {
     run_laws();
     runs_stand();
@@ -291,7 +295,7 @@ pub fn taken_are_live()
 
 /// By the history a `free` has taken an object that a Free is emptying.
 pub fn freed_are_taken()
-    ensures { OfTyped FreedAreTaken }
+    ensures { OfSources FreedAreTaken }
 {
     history_paths_law();
     seen_law();
@@ -306,7 +310,7 @@ pub fn freed_are_taken()
 /// So where a test of a cast or a `free` passed, the reference that it is about is the only one to its object by the
 /// history.
 pub fn tested_are_only()
-    ensures { OfTyped TestedAreOnly }
+    ensures { OfSources TestedAreOnly }
 {
     seen_law();
     pointers_kept_law();

@@ -7,11 +7,9 @@ narrow n h = omega arith
 pub returns : goal.returns
 returns c = λ source built is s fits run checked t site count stop.
     let m = built.checked in
-    let front = is.front.typed in
     let made = is.compiled in
-    let typed = c.fronts_are_typed.ensures source m is.front is.accepted in
+    let p = c.built_is_source.ensures source built is in
     let w = c.built_is_typed.ensures source built is in
     let few : IsSmall built.code s = record { counts = c.range_laws.ensures.counts built.code s is.numbers fits; functions = narrow _ is.numbers.functions } in
-    let unsigned = c.numbers_have_no_sign.ensures source front.tokens m.typed.program front.read front.reads in
-    let begins = c.made_code_begins.ensures m typed.resolved unsigned made.flat made.flattens built.code made.coded in
-    (w.0, w.1, c.reports_show_cause.ensures m typed made.flat made.flattens made.fits built.code made.coded s w.0 w.1 fits few begins run checked t site count stop)
+    let begins = c.made_code_begins.ensures m p.typed.resolved p.unsigned made.flat made.flattens built.code made.coded in
+    (w.0, w.1, c.reports_show_cause.ensures m p made.flat made.flattens made.fits built.code made.coded s w.0 w.1 fits few begins run checked t site count stop)

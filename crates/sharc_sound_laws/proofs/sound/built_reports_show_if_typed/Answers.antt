@@ -9,4 +9,4 @@ returns c = λ source built is x ls wt s fits run checked t stop stopped at repo
     let m = built.checked in
     let few : IsSmall built.code s = record { counts = c.range_laws.ensures.counts built.code s is.numbers fits; functions = narrow _ is.numbers.functions } in
     let made = is.compiled in
-    c.reports_show_if_typed.ensures m (c.fronts_are_typed.ensures source m is.front is.accepted) made.flat made.flattens made.fits built.code made.coded x ls wt s fits few run checked t stop stopped at report
+    c.reports_show_if_typed.ensures m (c.built_is_source.ensures source built is) made.flat made.flattens made.fits built.code made.coded x ls wt s fits few run checked t stop stopped at report

@@ -2,11 +2,11 @@ use Rattle.sharc_sound_laws.proofs.{Imports.{◌≡◌, ℕ, Some, List, ◌∷�
 use Rattle.sharc_sound_laws.proofs.sound.obeying_is_unreported_if_typed.Goals as goal
 
 pub returns : goal.returns
-returns c = λ m typed unsigned flat flattens fits code is x ls wt always s shape few run checked t stop stopped report.
+returns c = λ m p flat flattens fits code is x ls wt always s shape few run checked t stop stopped report.
     let laws = c.run_laws-2.ensures in
     let first = first_is flat code is in
-    let placed = λ (run : List Turn) (checked : CheckedRun code s run) (t : ℕ). c.threads_stand_if_typed.ensures m typed flat flattens fits code is x ls wt s shape few run checked t in
-    let source = λ (run : List Turn) (checked : CheckedRun code s run). (c.sound_if_typed.ensures m typed unsigned flat flattens fits code is x ls wt s shape few run checked).source in
+    let placed = λ (run : List Turn) (checked : CheckedRun code s run) (t : ℕ). c.threads_stand_if_typed.ensures m p flat flattens fits code is x ls wt s shape few run checked t in
+    let source = λ (run : List Turn) (checked : CheckedRun code s run). (c.sound_if_typed.ensures m p.typed p.unsigned flat flattens fits code is x ls wt s shape few run checked).source in
     let of_access : (d : ConflictAt) → stop ≡ Conflict d → ⊥ = λ d same.
     let h = c.causes_law.ensures.rules x code s ls wt shape few (c.followed_law.ensures flat code is) run checked t d (subst (λ (v : Stop). ((place_after code s run).threads t).own.stop ≡ Some v) same stopped) in
     let from = opening_of bounds (one_thread code s) (opening_words code s) in

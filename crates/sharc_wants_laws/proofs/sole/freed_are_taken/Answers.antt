@@ -18,4 +18,4 @@ returns c = λ m p flat flattens fits code is x s ls wt fits_code small run chec
     (λ one earlier checked. c.grows_law.ensures x code s ls wt fits_code small one earlier checked)
     (λ run checked u n some t. c.taken_are_live.ensures m p flat flattens fits code is x s ls wt fits_code small run checked u n some t)
     run checked y.thread n y.some t)
-    (c.threads_have_begun.ensures m p flat flattens fits code is x s ls wt fits_code small run checked y.thread)
+    (c.threads_have_begun.ensures m p.typed flat flattens fits code is x s ls wt fits_code small run checked y.thread)

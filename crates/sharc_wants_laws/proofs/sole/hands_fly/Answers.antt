@@ -3,5 +3,5 @@ use Rattle.sharc_wants_laws.proofs.sole.hands_fly.Goals as goal
 
 pub returns : goal.returns
 returns c = λ m p flat flattens fits code is s run checked consistent thread b may n staged some.
-    in_hand m (c.each_names_itself.ensures m.typed p.resolved p.placed p.low) code (reverse (told_in (Erase code s run))) thread ((place_after code s run).threads thread) (lowered_of code s run thread) b may
+    in_hand m (c.each_names_itself.ensures m.typed p.typed.resolved p.typed.placed p.typed.low) code (reverse (told_in (Erase code s run))) thread ((place_after code s run).threads thread) (lowered_of code s run thread) b may
     (c.thread_holds.ensures m p flat flattens fits code is s run checked consistent thread) n staged some

@@ -26,4 +26,4 @@ returns c = λ m p flat flattens fits code is x s ls wt fits_code small run chec
     registered_live x code s ls wt (place_after code s run) (objects_there x code s ls run) (c.runs_stand.ensures x code s ls wt fits_code small run ((c.run_laws.ensures.checked code s run).0 checked))
     (λ u off. c.causes_law.ensures.unstarted x code s ls wt fits_code small run checked u off) thread n some
     (registered.held later (omega arith) e.held.0 n there))
-    (c.threads_have_begun.ensures m p flat flattens fits code is x s ls wt fits_code small run checked thread)
+    (c.threads_have_begun.ensures m p.typed flat flattens fits code is x s ls wt fits_code small run checked thread)

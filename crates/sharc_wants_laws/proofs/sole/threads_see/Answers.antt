@@ -3,6 +3,6 @@ use Rattle.sharc_wants_laws.proofs.sole.threads_see.Goals as goal
 
 pub returns : goal.returns
 returns c = λ m p flat flattens fits code is s run checked consistent thread b may k n here some rests.
-    seen m (c.each_names_itself.ensures m.typed p.resolved p.placed p.low) code (reverse (told_in (Erase code s run))) thread ((place_after code s run).threads thread) (lowered_of code s run thread) b may c.ask_laws.ensures
-    c.held_are_held_on.ensures p.resolved p.placed p.low n rests
+    seen m (c.each_names_itself.ensures m.typed p.typed.resolved p.typed.placed p.typed.low) code (reverse (told_in (Erase code s run))) thread ((place_after code s run).threads thread) (lowered_of code s run thread) b may c.ask_laws.ensures
+    c.held_are_held_on.ensures p.typed.resolved p.typed.placed p.typed.low n rests
     (c.thread_holds.ensures m p flat flattens fits code is s run checked consistent thread) k here some
