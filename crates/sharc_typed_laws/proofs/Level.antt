@@ -301,13 +301,11 @@ module _ (x : Targets) (code : Code) (fl : FlatLabels) (flat : Flat) (dropped : 
     level (op.Free r layout spot) h w = puts (n + 1) on r Empty _ refl refl h.next
     level (op.Lock cell spot) h w = locked cell h.4
     level (op.Unlock r cell spot) h w = (vacant r h.1.empty, unlocked r cell h.3)
-    level (op.CondEnter cell spot) h w = same (n + 1) on _ refl refl h.2
-    level (op.CondWait cell spot) h w = same (n + 1) on _ refl refl h.2
-    level (op.CondSignal cell spot) h w = same (n + 1) on _ refl refl h.2
-    level (op.CondBroadcast cell spot) h w = same (n + 1) on _ refl refl h.2
     level (op.Spawn i g from spot) h w = hands i from _ h.6
     level (op.Join i spot) h w = same (n + 1) on l refl refl h.1
     level (op.Print i spot) h w = same (n + 1) on _ refl refl h.1
+    -- what is done with a condition variable
+    level _ h w = same (n + 1) on _ refl refl h.2
 
   -- ---- the whole
   takes_by : (p : Parameter) (s : Slots) → (p ≡ Parameter.Reference → s 0 ≡ full) → Takes flat owner gives table s p
